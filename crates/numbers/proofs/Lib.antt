@@ -1,0 +1,4 @@
+pub mod Range
+pub mod Cut
+pub mod Clamp
+pub mod Table

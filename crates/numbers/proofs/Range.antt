@@ -1,0 +1,224 @@
+-- The ranges and the read-backs of signed formulas, by computation.
+-- `Q z`: the machine's number z stands for `value`, of magnitude at most `bound`, where `ok` computes to true. `search quotes` builds it from z.
+use mathlib.Core.Path.{_≡_, refl, sym, ap, _∙_, subst}
+use mathlib.Core.Bool.{Bool, true, false, cond, _&&_}
+use Prim.Native.Nat.{ℕ, zero, suc, _+_, _*_, _-_, _/_, _^_, _≤_, _<_}
+use native.Mathlib.Nat.{le-refl, le-trans, lt-of-le-of-lt, mul-le-mul, mul-zero, add-mul, div-zero, div-mul-le-self, le-div-iff-mul-le}
+use native.Mathlib.Omega.{arith}
+use lib.Dec.{T, ltb, ltb→lt, leb, leb→le}
+use lib.IntN.{ℤ, pos, negsuc, negℤ, natAbs, _+ℤ_, _-ℤ_, _*ℤ_}
+use lib.Signed.{mag, shrZ, nonNeg}
+use mir.Syntax.{Width, w8, w16}
+use mir.Val.{Fits, SFits, toZ, ofZ, bits, hbits}
+use mir.ValLaws.{toZ-ofZ}
+
+-- ---- the magnitude of each operation's result
+
+mag-cond : (b : Bool) {m n k : ℕ} → m ≤ k → n ≤ k → mag (cond b (negsuc m) (pos n)) ≤ k
+mag-cond true p q = p
+mag-cond false p q = q
+
+mag-add : (x y : ℤ) → mag (x +ℤ y) ≤ suc (mag x + mag y)
+mag-add (pos a) (pos b) = omega arith
+mag-add (pos a) (negsuc b) = mag-cond (ltb a (suc b)) (omega arith) (omega arith)
+mag-add (negsuc a) (pos b) = mag-cond (ltb b (suc a)) (omega arith) (omega arith)
+mag-add (negsuc a) (negsuc b) = omega arith
+
+mag-sub : (x y : ℤ) → mag (x -ℤ y) ≤ suc (mag x + mag y)
+mag-sub (pos a) (pos zero) = omega arith
+mag-sub (pos a) (pos (suc b)) = mag-cond (ltb a (suc b)) (omega arith) (omega arith)
+mag-sub (pos a) (negsuc b) = omega arith
+mag-sub (negsuc a) (pos zero) = mag-cond (ltb 0 (suc a)) (omega arith) (omega arith)
+mag-sub (negsuc a) (pos (suc b)) = omega arith
+mag-sub (negsuc a) (negsuc b) = mag-cond (ltb (suc b) (suc a)) (omega arith) (omega arith)
+
+mag-neg : (n : ℕ) → mag (negℤ (pos n)) ≤ n - 1
+mag-neg zero = le-refl 0
+mag-neg (suc n) = omega arith
+
+mag-mul : (x y : ℤ) → mag (x *ℤ y) ≤ suc (mag x) * suc (mag y)
+mag-mul (pos a) (pos b) = mul-le-mul (omega arith) (omega arith)
+mag-mul (pos a) (negsuc b) = let h : a * suc b ≤ suc a * suc b = mul-le-mul (omega arith) (le-refl (suc b)) in omega (arith, mag-neg (a * suc b))
+mag-mul (negsuc a) (pos b) = let h : suc a * b ≤ suc a * suc b = mul-le-mul (le-refl (suc a)) (omega arith) in omega (arith, mag-neg (suc a * b))
+mag-mul (negsuc a) (negsuc b) = le-refl (suc a * suc b)
+
+-- by a number that is not negative: exact at both ends
+mag-times : (x : ℤ) (n : ℕ) → mag (x *ℤ pos n) ≤ suc (mag x) * n - 1
+mag-times (pos a) zero = omega (arith, mul-zero a)
+mag-times (pos a) (suc n) = omega (arith, add-mul a 1 (suc n))
+mag-times (negsuc a) n = mag-neg (suc a * n)
+
+div-mono : (m : ℕ) {a b : ℕ} → a ≤ b → a / m ≤ b / m
+div-mono zero {a} {b} h = subst (λ (n : ℕ). n ≤ b / zero) (sym (div-zero a)) (omega arith)
+div-mono (suc m) {a} {b} h = le-div-iff-mul-le {k = suc m} {x = a / suc m} {y = b} (omega arith) .1 (le-trans (div-mul-le-self a (suc m)) h)
+
+mag-shr : (x : ℤ) (k : ℕ) → mag (shrZ x k) ≡ mag x / k
+mag-shr (pos a) k = refl
+mag-shr (negsuc a) k = refl
+
+-- ---- laws: of the machine's h, which stands for f, and of an operation f, with a bound from the operands' bounds, where a test of those passes
+
+abbrev pub Law1 : (ℤ → ℤ) → (ℤ → ℤ) → (ℕ → ℕ) → (ℕ → Bool) → Type 0
+Law1 h f g r = (x : ℤ) (m : ℕ) → mag x ≤ m → T (r m) → (h x ≡ f x) × (mag (f x) ≤ g m)
+
+abbrev pub Law2 : (ℤ → ℤ → ℤ) → (ℕ → ℕ → ℕ) → (ℕ → ℕ → Bool) → Type 0
+Law2 f g r = (x y : ℤ) (m n : ℕ) → mag x ≤ m → mag y ≤ n → T (r m n) → mag (f x y) ≤ g m n
+
+pub add-law : Law2 _+ℤ_ (λ m n. suc (m + n)) (λ m n. true)
+add-law x y m n p q t = omega (arith, mag-add x y)
+
+pub sub-law : Law2 _-ℤ_ (λ m n. suc (m + n)) (λ m n. true)
+sub-law x y m n p q t = omega (arith, mag-sub x y)
+
+pub mul-law : Law2 _*ℤ_ (λ m n. suc m * suc n) (λ m n. true)
+mul-law x y m n p q t = le-trans (mag-mul x y) (mul-le-mul (omega arith) (omega arith))
+
+pub times-law : (n : ℕ) → Law1 (λ x. x *ℤ pos n) (λ x. x *ℤ pos n) (λ m. suc m * n - 1) (λ m. true)
+times-law n x m p t = (refl, (let q : suc (mag x) * n ≤ suc m * n = mul-le-mul (omega arith) (le-refl n) in omega (arith, mag-times x n)))
+
+pub shr-law : (k : ℕ) → Law1 (λ x. shrZ x k) (λ x. shrZ x k) (λ m. m / k) (λ m. true)
+shr-law k x m p t = (refl, rw mag-shr (div-mono k p))
+
+pub within-fits : (w : Width) (x : ℤ) (m : ℕ) → mag x ≤ m → T (ltb m (2 ^ hbits w)) → SFits w x
+within-fits w x m p t = record { sfits = lt-of-le-of-lt p (ltb→lt m (2 ^ hbits w) t) }
+
+pub read-law : (w : Width) → Law1 (λ x. toZ w (ofZ w x)) (λ x. x) (λ m. m) (λ m. ltb m (2 ^ hbits w))
+read-law w x m p t = (toZ-ofZ w x (within-fits w x m p t), p)
+
+-- ---- formulas
+
+pub and-l : (a b : Bool) → T (a && b) → T a
+and-l true b t = tt
+and-l false b t = t
+
+pub and-r : (a b : Bool) → T (a && b) → T b
+and-r true b t = t
+and-r false b t = absurd t
+
+pub record Q (z : ℤ) : Type 0 where
+  pub value : ℤ
+  pub bound : ℕ
+  pub ok : Bool
+  pub is : T ok → z ≡ value
+  pub within : T ok → mag value ≤ bound
+
+-- the magnitude of z is at most m. A record, so that z can be inferred
+pub record Within (m : ℕ) (z : ℤ) : Type 0 where
+  pub le : mag z ≤ m
+
+abbrev pub q-1 : (h f : ℤ → ℤ) (g : ℕ → ℕ) (r : ℕ → Bool) → Law1 h f g r → {a : ℤ} → Q a → Q (h a)
+q-1 h f g r law p = record {
+  value = f (p .value);
+  bound = g (p .bound);
+  ok = p .ok && r (p .bound);
+  is = λ t. (λ i. h (p .is (and-l (p .ok) (r (p .bound)) t) i)) ∙ law (p .value) (p .bound) (p .within (and-l (p .ok) (r (p .bound)) t)) (and-r (p .ok) (r (p .bound)) t) .0;
+  within = λ t. law (p .value) (p .bound) (p .within (and-l (p .ok) (r (p .bound)) t)) (and-r (p .ok) (r (p .bound)) t) .1;
+}
+
+abbrev pub q-2 : (f : ℤ → ℤ → ℤ) (g : ℕ → ℕ → ℕ) (r : ℕ → ℕ → Bool) → Law2 f g r → {a b : ℤ} → Q a → Q b → Q (f a b)
+q-2 f g r law p q =
+    let s = p .ok && q .ok in
+    let d = r (p .bound) (q .bound) in
+    record {
+      value = f (p .value) (q .value);
+      bound = g (p .bound) (q .bound);
+      ok = s && d;
+      is = λ t. λ i. f (p .is (and-l (p .ok) (q .ok) (and-l s d t)) i) (q .is (and-r (p .ok) (q .ok) (and-l s d t)) i);
+      within = λ t. law (p .value) (q .value) (p .bound) (q .bound) (p .within (and-l (p .ok) (q .ok) (and-l s d t))) (q .within (and-r (p .ok) (q .ok) (and-l s d t))) (and-r s d t);
+    }
+
+-- leaves: what stands for x, of magnitude at most m; of a hypothesis; a parameter; an element or a field; an unsigned number; literals, at which alone the test computes
+abbrev pub q-is : {z : ℤ} (x : ℤ) (m : ℕ) → z ≡ x → mag x ≤ m → Q z
+q-is x m e h = record { value = x; bound = m; ok = true; is = λ t. e; within = λ t. h }
+
+abbrev pub q-at : (x : ℤ) (m : ℕ) → Within m x → Q x
+q-at x m h = q-is x m refl (h .le)
+
+pub fits-within : (w : Width) (x : ℤ) → SFits w x → mag x ≤ 2 ^ hbits w - 1
+fits-within w x f = let h : mag x < 2 ^ hbits w = f .sfits in omega arith
+
+abbrev pub q-par : (w : Width) (x : ℤ) → SFits w x → Q x
+q-par w x f = q-is x (2 ^ hbits w - 1) refl (fits-within w x f)
+
+abbrev pub q-elem16 : (x : ℤ) → mag x < 32768 → Q x
+q-elem16 x h = q-par w16 x (record { sfits = h })
+
+abbrev pub q-elem8 : (x : ℤ) → mag x < 128 → Q x
+q-elem8 x h = q-par w8 x (record { sfits = h })
+
+pub nat-within : (w : Width) (n : ℕ) → Fits w n → n ≤ 2 ^ bits w - 1
+nat-within w n f = let h : n < 2 ^ bits w = f .fits in omega arith
+
+abbrev pub q-nat : (w : Width) (n : ℕ) → Fits w n → Q (pos n)
+q-nat w n f = q-is (pos n) (2 ^ bits w - 1) refl (nat-within w n f)
+
+abbrev pub q-pos : (n : ℕ) → T (leb n 2147483647) → Q (pos n)
+q-pos n t = q-is (pos n) n refl (le-refl n)
+
+abbrev pub q-neg : (n : ℕ) → T (leb n 2147483647) → Q (negsuc n)
+q-neg n t = q-is (negsuc n) n refl (le-refl n)
+
+-- the operations; `x << k >> k` and masks are in `Cut.antt`
+abbrev pub q-add : {a b : ℤ} → Q a → Q b → Q (a +ℤ b)
+q-add p q = q-2 _+ℤ_ (λ m n. suc (m + n)) (λ m n. true) add-law p q
+
+abbrev pub q-sub : {a b : ℤ} → Q a → Q b → Q (a -ℤ b)
+q-sub p q = q-2 _-ℤ_ (λ m n. suc (m + n)) (λ m n. true) sub-law p q
+
+abbrev pub q-mul : {a b : ℤ} → Q a → Q b → Q (a *ℤ b)
+q-mul p q = q-2 _*ℤ_ (λ m n. suc m * suc n) (λ m n. true) mul-law p q
+
+abbrev pub q-times : {a : ℤ} (n : ℕ) → T (leb n 2147483647) → Q a → Q (a *ℤ pos n)
+q-times n l p = q-1 (λ x. x *ℤ pos n) (λ x. x *ℤ pos n) (λ m. suc m * n - 1) (λ m. true) (times-law n) p
+
+abbrev pub q-shr : {a : ℤ} (k : ℕ) → Q a → Q (shrZ a k)
+q-shr k p = q-1 (λ x. shrZ x k) (λ x. shrZ x k) (λ m. m / k) (λ m. true) (shr-law k) p
+
+-- what the machine reads back from the bits; from those of an unsigned number, `n as i32`
+abbrev pub q-read : {a : ℤ} (w : Width) → Q a → Q (toZ w (ofZ w a))
+q-read w p = q-1 (λ x. toZ w (ofZ w x)) (λ x. x) (λ m. m) (λ m. ltb m (2 ^ hbits w)) (read-law w) p
+
+abbrev pub q-unsigned : (w w′ : Width) (n : ℕ) → Fits w′ n → Q (toZ w n)
+q-unsigned w w′ n f = q-read w (q-nat w′ n f)
+
+-- what equals a formula, as a call's result does; a local of a loop, whose invariant says of what it holds the bits
+abbrev pub q-by : {r z : ℤ} → r ≡ z → Q z → Q r
+q-by e q = record { value = q .value; bound = q .bound; ok = q .ok; is = λ t. e ∙ q .is t; within = λ t. q .within t }
+
+-- an i16 that a call gave: its type bounds it, whatever bound the formula has
+pub low-bound : {r : ℤ} (m : ℕ) (q : Q r) → T (q .ok) → mag r < m → mag (q .value) ≤ m - 1
+low-bound m q t h = let k : mag (q .value) < m = subst (λ (x : ℤ). mag x < m) (q .is t) h in omega arith
+
+abbrev pub q-call16 : {r z : ℤ} → r ≡ z → mag r < 32768 → Q z → Q r
+q-call16 e h q = record { value = q .value; bound = 32767; ok = q .ok; is = λ t. e ∙ q .is t; within = λ t. low-bound 32768 (q-by e q) t h }
+
+abbrev pub q-local : (w : Width) {b : ℕ} {a : ℤ} → b ≡ ofZ w a → Q a → Q (toZ w b)
+q-local w e p = q-by (λ i. toZ w (e i)) (q-read w p)
+
+pub ruleset quotes = (tt, q-par, q-pos, q-neg, q-add, q-sub, q-mul, q-shr, q-read)
+
+-- ---- the uses
+
+pub reads : {z : ℤ} (q : Q z) → T (q .ok) → z ≡ q .value
+reads q t = q .is t
+
+pub fits : {w : Width} {z : ℤ} (q : Q z) → T (q .ok && ltb (q .bound) (2 ^ hbits w)) → SFits w z
+fits {w} q t =
+    let b = ltb (q .bound) (2 ^ hbits w) in
+    subst (SFits w) (sym (q .is (and-l (q .ok) b t))) (within-fits w (q .value) (q .bound) (q .within (and-l (q .ok) b t)) (and-r (q .ok) b t))
+
+pub bounded : {z : ℤ} {m : ℕ} (q : Q z) → T (q .ok && leb (q .bound) m) → Within m z
+bounded {z} {m} q t =
+    let b = leb (q .bound) m in
+    record { le = subst (λ (x : ℤ). mag x ≤ m) (sym (q .is (and-l (q .ok) b t))) (le-trans (q .within (and-l (q .ok) b t)) (leb→le (q .bound) m (and-r (q .ok) b t))) }
+
+-- a cast to an unsigned type, of a formula that stands for the number n
+pub fits-u : {w : Width} {z : ℤ} (q : Q z) (n : ℕ) → q .value ≡ pos n → T (q .ok && ltb (q .bound) (2 ^ bits w)) → T (nonNeg z) × Fits w (natAbs z)
+fits-u {w} q n e t =
+    let b = ltb (q .bound) (2 ^ bits w) in
+    let h : mag (pos n) ≤ q .bound = subst (λ (x : ℤ). mag x ≤ q .bound) e (q .within (and-l (q .ok) b t)) in
+    subst (λ (x : ℤ). T (nonNeg x) × Fits w (natAbs x)) (sym (q .is (and-l (q .ok) b t) ∙ e))
+    (tt, record { fits = lt-of-le-of-lt h (ltb→lt (q .bound) (2 ^ bits w) (and-r (q .ok) b t)) })
+
+pub reads-u : {z : ℤ} (q : Q z) (n : ℕ) → q .value ≡ pos n → T (q .ok) → natAbs z ≡ n
+reads-u q n e t = ap natAbs (q .is t ∙ e)
