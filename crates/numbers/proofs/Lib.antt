@@ -1,4 +1,5 @@
 pub mod Range
 pub mod Cut
 pub mod Clamp
+pub mod Choice
 pub mod Table

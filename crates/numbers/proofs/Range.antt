@@ -8,7 +8,7 @@ use native.Mathlib.Omega.{arith}
 use lib.Dec.{T, ltb, ltb→lt, leb, leb→le}
 use lib.IntN.{ℤ, pos, negsuc, negℤ, natAbs, _+ℤ_, _-ℤ_, _*ℤ_}
 use lib.Signed.{mag, shrZ, nonNeg}
-use mir.Syntax.{Width, w8, w16}
+use mir.Syntax.{Width}
 use mir.Val.{Fits, SFits, toZ, ofZ, bits, hbits}
 use mir.ValLaws.{toZ-ofZ}
 
@@ -85,6 +85,9 @@ within-fits w x m p t = record { sfits = lt-of-le-of-lt p (ltb→lt m (2 ^ hbits
 pub read-law : (w : Width) → Law1 (λ x. toZ w (ofZ w x)) (λ x. x) (λ m. m) (λ m. ltb m (2 ^ hbits w))
 read-law w x m p t = (toZ-ofZ w x (within-fits w x m p t), p)
 
+pub landed : (w : Width) {z : ℤ} → mag z < 2 ^ hbits w → toZ w (ofZ w z) ≡ z
+landed w h = toZ-ofZ w _ (record { sfits = h })
+
 -- ---- formulas
 
 pub and-l : (a b : Bool) → T (a && b) → T a
@@ -127,7 +130,7 @@ q-2 f g r law p q =
       within = λ t. law (p .value) (q .value) (p .bound) (q .bound) (p .within (and-l (p .ok) (q .ok) (and-l s d t))) (q .within (and-r (p .ok) (q .ok) (and-l s d t))) (and-r s d t);
     }
 
--- leaves: what stands for x, of magnitude at most m; of a hypothesis; a parameter; an element or a field; an unsigned number; literals, at which alone the test computes
+-- leaves: what stands for x, of magnitude at most m; of a hypothesis; a parameter; of an element or a field; an unsigned number; literals, at which alone the test computes
 abbrev pub q-is : {z : ℤ} (x : ℤ) (m : ℕ) → z ≡ x → mag x ≤ m → Q z
 q-is x m e h = record { value = x; bound = m; ok = true; is = λ t. e; within = λ t. h }
 
@@ -140,11 +143,14 @@ fits-within w x f = let h : mag x < 2 ^ hbits w = f .sfits in omega arith
 abbrev pub q-par : (w : Width) (x : ℤ) → SFits w x → Q x
 q-par w x f = q-is x (2 ^ hbits w - 1) refl (fits-within w x f)
 
-abbrev pub q-elem16 : (x : ℤ) → mag x < 32768 → Q x
-q-elem16 x h = q-par w16 x (record { sfits = h })
+pub below-within : (m : ℕ) (x : ℤ) → mag x < m → mag x ≤ m - 1
+below-within m x h = omega arith
 
-abbrev pub q-elem8 : (x : ℤ) → mag x < 128 → Q x
-q-elem8 x h = q-par w8 x (record { sfits = h })
+abbrev pub q-mag : (m : ℕ) (x : ℤ) → mag x < m → Q x
+q-mag m x h = q-is x (m - 1) refl (below-within m x h)
+
+abbrev pub q-elem16 : (x : ℤ) → mag x < 0x8000 → Q x
+q-elem16 x h = q-mag 0x8000 x h
 
 pub nat-within : (w : Width) (n : ℕ) → Fits w n → n ≤ 2 ^ bits w - 1
 nat-within w n f = let h : n < 2 ^ bits w = f .fits in omega arith
@@ -178,19 +184,15 @@ q-shr k p = q-1 (λ x. shrZ x k) (λ x. shrZ x k) (λ m. m / k) (λ m. true) (sh
 abbrev pub q-read : {a : ℤ} (w : Width) → Q a → Q (toZ w (ofZ w a))
 q-read w p = q-1 (λ x. toZ w (ofZ w x)) (λ x. x) (λ m. m) (λ m. ltb m (2 ^ hbits w)) (read-law w) p
 
+abbrev pub q-upto : (w : Width) (n m : ℕ) → n ≤ m → Q (toZ w n)
+q-upto w n m h = q-read w (q-is (pos n) m refl h)
+
 abbrev pub q-unsigned : (w w′ : Width) (n : ℕ) → Fits w′ n → Q (toZ w n)
 q-unsigned w w′ n f = q-read w (q-nat w′ n f)
 
 -- what equals a formula, as a call's result does; a local of a loop, whose invariant says of what it holds the bits
 abbrev pub q-by : {r z : ℤ} → r ≡ z → Q z → Q r
 q-by e q = record { value = q .value; bound = q .bound; ok = q .ok; is = λ t. e ∙ q .is t; within = λ t. q .within t }
-
--- an i16 that a call gave: its type bounds it, whatever bound the formula has
-pub low-bound : {r : ℤ} (m : ℕ) (q : Q r) → T (q .ok) → mag r < m → mag (q .value) ≤ m - 1
-low-bound m q t h = let k : mag (q .value) < m = subst (λ (x : ℤ). mag x < m) (q .is t) h in omega arith
-
-abbrev pub q-call16 : {r z : ℤ} → r ≡ z → mag r < 32768 → Q z → Q r
-q-call16 e h q = record { value = q .value; bound = 32767; ok = q .ok; is = λ t. e ∙ q .is t; within = λ t. low-bound 32768 (q-by e q) t h }
 
 abbrev pub q-local : (w : Width) {b : ℕ} {a : ℤ} → b ≡ ofZ w a → Q a → Q (toZ w b)
 q-local w e p = q-by (λ i. toZ w (e i)) (q-read w p)

@@ -1,6 +1,6 @@
 -- Signed numbers: clamped, cut to some of their low bits, and taken apart into bytes.
-use Prim.Native.Nat.{ℕ, zero, suc, _+_, _-_, _%_}
-use lib.IntN.{ℤ, pos, negsuc}
+use Prim.Native.Nat.{ℕ, zero, suc, _+_, _-_, _%_, _^_}
+use lib.IntN.{ℤ, pos, negsuc, _-ℤ_}
 use lib.Signed.{shrZ}
 use Rattle.numbers.specs.Choice.{if_then_else_, _<?_, _<ℤ?_}
 
@@ -8,6 +8,14 @@ use Rattle.numbers.specs.Choice.{if_then_else_, _<?_, _<ℤ?_}
 abbrev pub minus : ℕ → ℤ
 minus zero = pos 0
 minus (suc n) = negsuc n
+
+abbrev pub neg : ℤ → ℤ
+neg x = pos 0 -ℤ x
+
+-- a shift rounds down
+infix 45 _>>_
+abbrev pub _>>_ : ℤ → ℕ → ℤ
+x >> k = shrZ x (2 ^ k)
 
 -- x kept between lo and hi
 abbrev pub clampZ : ℤ → ℤ → ℤ → ℤ
@@ -40,4 +48,4 @@ abbrev pub lowZ : ℤ → ℕ
 lowZ x = modZ x 0x100
 
 abbrev pub highZ : ℤ → ℕ
-highZ x = modZ (shrZ x 0x100) 0x100
+highZ x = modZ (x >> 8) 0x100

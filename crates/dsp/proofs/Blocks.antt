@@ -1,0 +1,102 @@
+-- Laws of RAM addresses, and of a block that is decoded nibble by nibble into a slice.
+use mathlib.Core.Path.{_≡_, refl, sym, ap, _∙_}
+use mathlib.Core.List.{List, [], _∷_, _++_}
+use Prim.Native.Nat.{ℕ, zero, suc, _+_, _*_, _/_, _%_, _<_}
+use native.Mathlib.Numerals.{add-one}
+use native.Mathlib.Omega.{arith}
+use lib.IntN.{ℤ}
+use lib.ListN.{length, take, set, length-set}
+use lib.Seq.{take-suc-set, take-all}
+use Rattle.dsp.specs.Brr.{byteAt, wordAt, endOf, loopOf, nibbleAt, sampleOf, newest, listed, Decoded, decodeBlock}
+
+-- an address that has wrapped before the sum
+pub byte-wraps : (ram : List ℕ) (a k : ℕ) → byteAt ram (a % 0x10000 + k) ≡ byteAt ram (a + k)
+unfolding byteAt
+byte-wraps ram a k = let e : (a % 0x10000 + k) % 0x10000 ≡ (a + k) % 0x10000 = omega arith in rw e
+
+pub word-wraps : (ram : List ℕ) (a k : ℕ) → wordAt ram (a % 0x10000 + k) ≡ wordAt ram (a + k)
+unfolding wordAt byteAt
+word-wraps ram a k =
+    let e : (a % 0x10000 + k) % 0x10000 ≡ (a + k) % 0x10000 = omega arith in
+    let d : (a % 0x10000 + k + 1) % 0x10000 ≡ (a + k + 1) % 0x10000 = omega arith in
+    rw (e, d)
+
+listed-snoc : {A : Type 0} (f : ℕ → A) (k n : ℕ) → listed f (suc k) n ≡ listed f k n ++ (f (n + k) ∷ [])
+listed-snoc f zero n = let z : n ≡ n + 0 = omega arith in ap (λ (j : ℕ). f j ∷ []) z
+listed-snoc f (suc k) n =
+    let z : suc n + k ≡ n + suc k = omega arith in
+    ap (λ (l : List _). f n ∷ l) (listed-snoc f k (suc n) ∙ ap (λ (j : ℕ). listed f k (suc n) ++ (f j ∷ [])) z)
+
+listed-last : {A : Type 0} (f : ℕ → A) (k : ℕ) → listed f (suc k) 0 ≡ listed f k 0 ++ (f k ∷ [])
+listed-last f k = let z : 0 + k ≡ k = omega arith in listed-snoc f k 0 ∙ ap (λ (j : ℕ). listed f k 0 ++ (f j ∷ [])) z
+
+module _ (ram : List ℕ) (a : ℕ) (p1 p2 : ℤ) where
+  abbrev sample : ℕ → ℤ
+  sample k = newest ram a p1 p2 (suc k) .prev1
+
+  -- k nibbles are decoded: their samples stand at the front, and these are the two newest
+  pub record UpTo (k : ℕ) (samples : List ℤ) (n1 n2 : ℤ) : Type 0 where
+    pub sized : length samples ≡ 16
+    pub front : take k samples ≡ listed sample k 0
+    pub first : n1 ≡ newest ram a p1 p2 k .prev1
+    pub second : n2 ≡ newest ram a p1 p2 k .prev2
+
+  pub none : (samples : List ℤ) → length samples ≡ 16 → UpTo 0 samples p1 p2
+  unfolding newest
+  none samples h = record { sized = h; front = refl; first = refl; second = refl }
+
+  one-more : (k : ℕ) (samples : List ℤ) (n1 n2 s : ℤ) → k < 16 → UpTo k samples n1 n2
+      → s ≡ sampleOf (byteAt ram a) (nibbleAt ram a k) n1 n2 → UpTo (suc k) (set samples k s) s n1
+  unfolding newest
+  one-more k samples n1 n2 s l u e =
+      let l′ : k < length samples = omega (arith, u .sized) in
+      let d : s ≡ sample k = e ∙ (λ i. sampleOf (byteAt ram a) (nibbleAt ram a k) (u .first i) (u .second i)) in
+      record {
+        sized = length-set samples k s ∙ u .sized;
+        front = take-suc-set samples k s l′ ∙ (λ i. u .front i ++ (d i ∷ [])) ∙ sym (listed-last sample k);
+        first = d;
+        second = u .first;
+      }
+
+  nibble-high : (i : ℕ) → nibbleAt ram a (i * 2) ≡ byteAt ram (a + (1 + i)) / 16
+  unfolding nibbleAt
+  nibble-high i =
+      let e : (i * 2) % 2 ≡ 0 = omega arith in
+      let d : a + 1 + (i * 2) / 2 ≡ a + (1 + i) = omega arith in
+      rw (e, d)
+
+  nibble-low : (i : ℕ) → nibbleAt ram a (suc (i * 2)) ≡ byteAt ram (a + (1 + i)) % 16
+  unfolding nibbleAt
+  nibble-low i =
+      let e : suc (i * 2) % 2 ≡ 1 = omega arith in
+      let d : a + 1 + suc (i * 2) / 2 ≡ a + (1 + i) = omega arith in
+      rw (e, d)
+
+  -- one byte more: both of its nibbles
+  pub two-more : (i header byte : ℕ) (samples : List ℤ) (n1 n2 s₀ s₁ : ℤ) → i < 8
+      → header ≡ byteAt ram (a + 0) → byte ≡ byteAt ram (a + (1 + i)) → UpTo (i * 2) samples n1 n2
+      → s₀ ≡ sampleOf header (byte / 16) n1 n2 → s₁ ≡ sampleOf header (byte % 16) s₀ n1
+      → UpTo ((i + 1) * 2) (set (set samples (i * 2) s₀) (i * 2 + 1) s₁) s₁ s₀
+  two-more i header byte samples n1 n2 s₀ s₁ l eh eb u e₀ e₁ =
+      let z : a + 0 ≡ a = omega arith in
+      let n : (i + 1) * 2 ≡ suc (suc (i * 2)) = omega arith in
+      let h = eh ∙ ap (byteAt ram) z in
+      let d₀ = e₀ ∙ (λ j. sampleOf (h j) ((ap (λ (x : ℕ). x / 16) eb ∙ sym (nibble-high i)) j) n1 n2) in
+      let d₁ = e₁ ∙ (λ j. sampleOf (h j) ((ap (λ (x : ℕ). x % 16) eb ∙ sym (nibble-low i)) j) s₀ n1) in
+      let v = one-more (i * 2) samples n1 n2 s₀ (omega arith) u d₀ in
+      rw (n, add-one) (one-more (suc (i * 2)) (set samples (i * 2) s₀) s₀ n1 s₁ (omega arith) v d₁)
+
+  pub whole : (k : ℕ) (samples : List ℤ) (n1 n2 : ℤ) (header : ℕ) → k ≡ 16 → header ≡ byteAt ram (a + 0) → UpTo k samples n1 n2
+      → _≡_ {A = Decoded} (record { samples = samples; prev1 = n1; prev2 = n2; end = endOf header; loops = loopOf header }) (decodeBlock ram a p1 p2)
+  unfolding decodeBlock
+  whole k samples n1 n2 header e eh u =
+      let z : a + 0 ≡ a = omega arith in
+      let h = eh ∙ ap (byteAt ram) z in
+      let t = take-all k samples (omega (arith, u .sized)) in
+      λ i. record {
+        samples = (sym t ∙ u .front ∙ ap (λ (j : ℕ). listed sample j 0) e) i;
+        prev1 = (u .first ∙ ap (λ (j : ℕ). newest ram a p1 p2 j .prev1) e) i;
+        prev2 = (u .second ∙ ap (λ (j : ℕ). newest ram a p1 p2 j .prev2) e) i;
+        end = endOf (h i);
+        loops = loopOf (h i);
+      }

@@ -1,0 +1,32 @@
+-- The interpolation table: that it never decreases and stays within 0 to 1833 is computed once, over the whole table,
+-- and carried from there to each index.
+use mathlib.Core.Path.{_≡_, ap}
+use mathlib.Core.List.{List}
+use Prim.Native.Nat.{ℕ, zero, suc, _+_, _-_, _≤_, _<_}
+use native.Mathlib.Omega.{arith}
+use lib.IntN.{ℤ, pos}
+use lib.ListN.{getD}
+use lib.Signed.{leZ, _≤ℤ_, leZ-yes}
+use Rattle.numbers.proofs.Range.{Q, Within, q-at}
+use Rattle.numbers.proofs.Table.{all, each, table-within, order-at}
+use Rattle.dsp.specs.Gauss.{weights, weightAt}
+
+pub weight-within : (i : ℕ) → Within 1833 (weightAt i)
+unfolding weightAt weights
+weight-within i = table-within 1833 weights tt i
+
+pub weight-least : (i : ℕ) → pos 0 ≤ℤ weightAt i
+unfolding weightAt weights
+weight-least i = leZ-yes (each (leZ (pos 0)) weights tt tt i)
+
+pub weights-ordered : (i : ℕ) → suc i < 512 → weightAt i ≤ℤ weightAt (suc i)
+unfolding weightAt weights
+weights-ordered i h = order-at weights tt i h
+
+abbrev pub q-weight : (i : ℕ) → Q (weightAt i)
+q-weight i = q-at (weightAt i) 1833 (weight-within i)
+
+-- an entry of a lent table that is this one
+pub entry : (table : List ℤ) (i : ℕ) → table ≡ weights → getD table i (pos 0) ≡ weightAt i
+unfolding weightAt
+entry table i e = ap (λ (t : List ℤ). getD t i (pos 0)) e

@@ -1,0 +1,12 @@
+-- The table, entry by entry.
+use mathlib.Core.Path.{refl}
+use Rattle.dsp.specs.Clock.{periods}
+use Rattle.dsp.proofs.adsr.rate_table.Statement.{statement}
+use Rattle.dsp.proofs.adsr.rate_table.Tie as tie
+
+returns : tie.Need-returns
+unfolding periods
+returns c = refl
+
+pub rate-table-spec : {M : Type 1} → statement M
+rate-table-spec = tie.close (tie.spec returns)

@@ -1,0 +1,22 @@
+-- By the clock.
+use borrow.Author.Needs.{needs}
+use Rattle.dsp.specs.Noise.{noiseTick}
+use Rattle.dsp.proofs.noise.Noise.advance.Statement.{statement}
+use Rattle.dsp.proofs.noise.Noise.advance.Tie as tie
+
+returns : tie.Need-returns
+unfolding noiseTick
+returns c = rw (← c .before .before .tick-due .ensures, c .before .if1 .taken, ← c .shifted .ensures)
+
+returns-2 : tie.Need-returns-2
+unfolding noiseTick
+returns-2 c = rw (← c .before .tick-due .ensures, c .if1 .left)
+
+pub advance-spec : {M : Type 1} → statement M
+advance-spec =
+    tie.close
+    (tie.spec
+    (λ c κs. search needs)
+    (λ c κs. search needs)
+    returns
+    returns-2)

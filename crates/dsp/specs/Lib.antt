@@ -1,0 +1,5 @@
+pub mod Clock
+pub mod Brr
+pub mod Gauss
+pub mod Envelope
+pub mod Noise

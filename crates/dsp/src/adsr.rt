@@ -1,0 +1,283 @@
+// The envelope of a voice: ADSR and GAIN. The settings, which only register writes change, stand apart from
+// the state that a tick moves.
+ghost use mathlib.Core.Path.{_≡_};
+ghost use Prim.Native.Nat.{_≤_, _<_};
+ghost use Rattle.dsp.specs.Clock.{periods, tickDue};
+ghost use Rattle.dsp.specs.Envelope.{FitEnvelope, FitSettings, counted, levelled, risen, lowered, settled, fallenTo, gained, gains, attackTick, decayTick, sustainTick, releaseTick, gainTick, envelopeTick};
+
+// Ticks between two steps for each rate index. Index 0 never fires.
+const ENVELOPE_RATE_TABLE: [u16; 32] = [
+    0,
+    2048,
+    1536,
+    1280,
+    1024,
+    768,
+    640,
+    512,
+    384,
+    320,
+    256,
+    192,
+    160,
+    128,
+    96,
+    80,
+    64,
+    48,
+    40,
+    32,
+    24,
+    20,
+    16,
+    12,
+    10,
+    8,
+    6,
+    5,
+    4,
+    3,
+    2,
+    1,
+];
+
+pub enum EnvelopePhase {
+    Attack,
+    Decay,
+    Sustain,
+    Release,
+    Off,
+}
+
+pub struct Settings {
+    pub adsr_mode: bool,
+    pub gain_param: u8,
+    pub attack_rate: u8,
+    pub decay_rate: u8,
+    pub sustain_level: u8,
+    pub sustain_rate: u8,
+}
+
+pub struct Envelope {
+    pub level: u16,
+    pub phase: EnvelopePhase,
+    pub counter: u16,
+}
+
+// A counter after a tick, and whether its step is due.
+pub struct Tick {
+    pub counter: u16,
+    pub due: bool,
+}
+
+// The whole table, for a caller to keep in a local and lend.
+pub(crate) fn rate_table() -> [u16; 32]
+    ensures { λ r. ⌜ r ≡ periods ⌝ }
+{
+    ENVELOPE_RATE_TABLE
+}
+
+pub(crate) fn tick_due(rates: &[u16], counter: u16, entry: u8) -> Tick
+    requires { ⌜ (now rates ≡ periods) × (counter ≤ 2047) × (entry < 32) ⌝ }
+    ensures { λ r. ⌜ r ≡ tickDue counter entry ⌝ }
+{
+    let i = entry as usize;
+    let period = rates[i];
+    if period == 0 {
+        Tick {
+            counter,
+            due: false,
+        }
+    } else if period <= counter + 1 {
+        Tick {
+            counter: 0,
+            due: true,
+        }
+    } else {
+        Tick {
+            counter: counter + 1,
+            due: false,
+        }
+    }
+}
+
+// An exponential step, in proportion to the level.
+fn lowered(level: u16) -> u16
+    ensures { λ r. ⌜ r ≡ lowered level ⌝ }
+{
+    numbers::saturating_sub(level, level / 256 + 1)
+}
+
+// A level after a step of a GAIN ramp, by bits 6-5.
+fn gained(mode: u8, level: u16) -> u16
+    requires { ⌜ level ≤ 0x800 ⌝ }
+    ensures { λ r. ⌜ r ≡ gained mode level ⌝ }
+{
+    match mode {
+        0 => numbers::saturating_sub(level, 32),
+        1 => lowered(level),
+        2 => numbers::min(level + 32, 0x7FF),
+        _ => if level < 0x600 {
+            numbers::min(level + 32, 0x7FF)
+        } else {
+            numbers::min(level + 8, 0x7FF)
+        },
+    }
+}
+
+// GAIN replaces the ADSR steps of the keyed-on phases; Release and Off are the same in both modes.
+fn gains(phase: EnvelopePhase, s: Settings) -> bool
+    ensures { λ r. ⌜ r ≡ gains phase s ⌝ }
+{
+    match phase {
+        EnvelopePhase::Attack => !s.adsr_mode,
+        EnvelopePhase::Decay => !s.adsr_mode,
+        EnvelopePhase::Sustain => !s.adsr_mode,
+        EnvelopePhase::Release => false,
+        EnvelopePhase::Off => false,
+    }
+}
+
+impl Envelope {
+    fn counted(mut self, counter: u16) -> Self
+        ensures { λ r. ⌜ r ≡ counted self counter ⌝ }
+    {
+        self.counter = counter;
+        self
+    }
+
+    fn levelled(mut self, level: u16) -> Self
+        ensures { λ r. ⌜ r ≡ levelled self level ⌝ }
+    {
+        self.level = level;
+        self
+    }
+
+    fn risen(self, by: u16) -> Self
+        requires { ⌜ (self .level ≤ 0x800) × (by ≤ 1024) ⌝ }
+        ensures { λ r. ⌜ r ≡ risen by self ⌝ }
+    {
+        let level = self.level + by;
+        if level >= 0x7FF {
+            Envelope {
+                level: 0x7FF,
+                phase: EnvelopePhase::Decay,
+                counter: 0,
+            }
+        } else {
+            self.levelled(level)
+        }
+    }
+
+    fn settled(self, target: u16) -> Self
+        ensures { λ r. ⌜ r ≡ settled target self ⌝ }
+    {
+        let level = lowered(self.level);
+        if level <= target {
+            Envelope {
+                level: target,
+                phase: EnvelopePhase::Sustain,
+                counter: 0,
+            }
+        } else {
+            self.levelled(level)
+        }
+    }
+
+    fn fallen_to(self, level: u16) -> Self
+        ensures { λ r. ⌜ r ≡ fallenTo level self ⌝ }
+    {
+        if level == 0 {
+            Envelope {
+                level: 0,
+                phase: EnvelopePhase::Off,
+                counter: self.counter,
+            }
+        } else {
+            self.levelled(level)
+        }
+    }
+
+    // Rate 15 is near-instant: a fixed step and no clock.
+    fn attack(self, rates: &[u16], s: Settings) -> Self
+        requires { ⌜ (now rates ≡ periods) × FitSettings s × FitEnvelope self ⌝ }
+        ensures { λ r. ⌜ r ≡ attackTick s self ⌝ }
+    {
+        if s.attack_rate == 15 {
+            self.risen(1024)
+        } else {
+            let t = tick_due(rates, self.counter, 2 * s.attack_rate + 1);
+            let e = self.counted(t.counter);
+            if t.due { e.risen(32) } else { e }
+        }
+    }
+
+    fn decay(self, rates: &[u16], s: Settings) -> Self
+        requires { ⌜ (now rates ≡ periods) × FitSettings s × FitEnvelope self ⌝ }
+        ensures { λ r. ⌜ r ≡ decayTick s self ⌝ }
+    {
+        let t = tick_due(rates, self.counter, 2 * s.decay_rate + 16);
+        let e = self.counted(t.counter);
+        if t.due {
+            e.settled((s.sustain_level as u16 + 1) * 0x100)
+        } else {
+            e
+        }
+    }
+
+    fn sustain(self, rates: &[u16], s: Settings) -> Self
+        requires { ⌜ (now rates ≡ periods) × FitSettings s × FitEnvelope self ⌝ }
+        ensures { λ r. ⌜ r ≡ sustainTick s self ⌝ }
+    {
+        let t = tick_due(rates, self.counter, s.sustain_rate);
+        let e = self.counted(t.counter);
+        if t.due {
+            e.fallen_to(lowered(e.level))
+        } else {
+            e
+        }
+    }
+
+    fn release(self) -> Self
+        ensures { λ r. ⌜ r ≡ releaseTick self ⌝ }
+    {
+        self.fallen_to(numbers::saturating_sub(self.level, 8))
+    }
+
+    // GAIN: a level at once, or a ramp at its own rate. No phase change.
+    fn update_gain(self, rates: &[u16], s: Settings) -> Self
+        requires { ⌜ (now rates ≡ periods) × FitEnvelope self ⌝ }
+        ensures { λ r. ⌜ r ≡ gainTick s self ⌝ }
+    {
+        let g = s.gain_param;
+        if g < 0x80 {
+            self.levelled(16 * (g as u16))
+        } else {
+            let t = tick_due(rates, self.counter, g % 32);
+            let e = self.counted(t.counter);
+            if t.due {
+                e.levelled(gained(g / 32 % 4, e.level))
+            } else {
+                e
+            }
+        }
+    }
+
+    // Advance the envelope by one tick.
+    pub(crate) fn update_envelope(self, rates: &[u16], s: Settings) -> Self
+        requires { ⌜ (now rates ≡ periods) × FitSettings s × FitEnvelope self ⌝ }
+        ensures { λ r. ⌜ r ≡ envelopeTick s self ⌝ }
+    {
+        let p = self.phase;
+        if gains(p, s) {
+            return self.update_gain(rates, s);
+        }
+        match p {
+            EnvelopePhase::Attack => self.attack(rates, s),
+            EnvelopePhase::Decay => self.decay(rates, s),
+            EnvelopePhase::Sustain => self.sustain(rates, s),
+            EnvelopePhase::Release => self.release(),
+            EnvelopePhase::Off => self,
+        }
+    }
+}

@@ -1,0 +1,20 @@
+-- What holds of both holds of the chosen one.
+use mathlib.Core.Bool.{Bool, true, false}
+use Prim.Native.Nat.{ℕ, _≤_, _<_}
+use Rattle.numbers.specs.Choice.{if_then_else_, _≤?_}
+use Rattle.numbers.specs.Unsigned.{least}
+use native.Mathlib.Nat.{le-refl}
+use native.Mathlib.Omega.{arith}
+use native.Mathlib.Decide.{decLe}
+use borrow.Author.Tests.{le-leb, lt-leb}
+
+pub chosen : {A : Type 0} (P : A → Type 0) (b : Bool) {x y : A} → P x → P y → P (if b then x else y)
+chosen P true p q = p
+chosen P false p q = q
+
+pub least-le : (a b : ℕ) → least a b ≤ b
+least-le a b =
+    elim (decLe a b) [
+      | yes e ↦ rw (le-leb _ _ e) e
+      | no e ↦ let l : b < a = omega arith in rw (lt-leb _ _ l) (le-refl b)
+    ]
