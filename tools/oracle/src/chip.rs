@@ -1,0 +1,142 @@
+//! Running a log on the given Rust, from `new`, and printing what it gives.
+
+use apu::dsp::Dsp;
+use apu::memory::RawARAM;
+
+use crate::bytes::{digest, Bytes};
+use crate::log::{self, Record, Refusal};
+
+/// All that a run leaves behind.
+pub struct Outcome {
+    /// Register and value of each reading.
+    pub readings: Vec<(u8, u8)>,
+    pub ticks: usize,
+    pub registers: Vec<u8>,
+    pub ram: Box<RawARAM>,
+    /// Left, right, 16 bits, low byte first.
+    pub pcm: Vec<u8>,
+}
+
+/// Checks RAM, then the log, then runs it (document 01's order).
+pub fn run(log: &[u8], ram: Vec<u8>) -> Result<Outcome, Refusal> {
+    let mut ram: Box<RawARAM> = ram.try_into().map_err(|_| Refusal::RamLength)?;
+    let records = log::read(log)?;
+
+    let mut dsp = Dsp::new();
+    let mut readings = Vec::new();
+    let mut ticks = 0;
+    let mut pcm = Bytes::new();
+    for record in records {
+        match record {
+            Record::Write { register, value } => dsp.write_reg(register, value),
+            Record::Reading(register) => readings.push((register, dsp.read_reg(register))),
+            Record::Ticks(count) => {
+                ticks += usize::from(count);
+                for _ in 0..count {
+                    tick(&mut dsp, &mut ram, &mut pcm);
+                }
+            }
+            Record::End => {}
+        }
+    }
+    let registers = (0..0x80).map(|register| dsp.read_reg(register)).collect();
+    Ok(Outcome {
+        readings,
+        ticks,
+        registers,
+        ram,
+        pcm: pcm.0,
+    })
+}
+
+/// A tick is `step`, then `render_audio_single`.
+fn tick(dsp: &mut Dsp, ram: &mut RawARAM, pcm: &mut Bytes) {
+    dsp.step(ram);
+    let (left, right) = dsp.render_audio_single();
+    pcm.samples(&[left, right]);
+}
+
+/// The program's lines of document 01 (Q and END), then the registers and
+/// the digests of RAM and PCM.
+pub fn report(result: &Result<Outcome, Refusal>) -> String {
+    let outcome = match result {
+        Ok(outcome) => outcome,
+        Err(refusal) => return format!("REFUSED {}\n", *refusal as u8),
+    };
+    let mut text = String::new();
+    for (number, (register, value)) in (1..).zip(&outcome.readings) {
+        text += &format!("Q {number} {register:02X} {value:02X}\n");
+    }
+    text += &format!("END {} {}\nREG", outcome.ticks, outcome.readings.len());
+    for register in &outcome.registers {
+        text += &format!(" {register:02X}");
+    }
+    text += &format!("\nRAM {:016X}\n", digest(&outcome.ram[..]));
+    text += &format!("PCM {:016X}\n", digest(&outcome.pcm));
+    text
+}
+
+#[cfg(test)]
+mod tests {
+    use super::*;
+    use crate::registers::*;
+
+    fn zero_ram() -> Vec<u8> {
+        vec![0; 65_536]
+    }
+
+    /// Document 01's example of the program's lines.
+    #[test]
+    fn example_prints_its_lines() {
+        let text = report(&run(b"QAlND", zero_ram()));
+        assert!(text.starts_with("Q 1 6C E0\nEND 0 1\nREG 00 "));
+        assert_eq!(text.lines().count(), 5);
+    }
+
+    #[test]
+    fn ram_comes_before_the_log() {
+        for length in [0, 65_535, 65_537] {
+            let text = report(&run(&[0; 60_001], vec![0; length]));
+            assert_eq!(text, "REFUSED 1\n");
+        }
+        assert_eq!(report(&run(&[0; 60_001], zero_ram())), "REFUSED 3\n");
+        assert_eq!(report(&run(b"", zero_ram())), "REFUSED 8\n");
+    }
+
+    /// Document 01: KON before tick 1 first runs the voice on tick 6. Direct
+    /// gain shows it: ENVX is 0 on the five skipped ticks.
+    #[test]
+    fn voice_first_runs_on_tick_6() {
+        for (ticks, envx) in [(5, 0), (6, 0x7F)] {
+            let mut dsp = Dsp::new();
+            dsp.write_reg(FLG, 0x20);
+            dsp.write_reg(GAIN, 0x7F);
+            dsp.write_reg(KON, 0x01);
+            let mut ram = Box::new([0; 65_536]);
+            for _ in 0..ticks {
+                dsp.step(&mut ram);
+            }
+            assert_eq!(dsp.read_reg(0x08), envx);
+        }
+    }
+
+    /// Document 01 has every tick leave OUTX, for idle and skipped voices
+    /// too. Here the Rust does the same: a byte written there is gone.
+    #[test]
+    fn outx_of_idle_and_skipped_voices() {
+        let mut dsp = Dsp::new();
+        let mut ram = Box::new([0; 65_536]);
+        dsp.write_reg(0x79, 0x55);
+        dsp.step(&mut ram);
+        assert_eq!(dsp.read_reg(0x79), 0, "idle");
+
+        dsp.step(&mut ram);
+        dsp.write_reg(FLG, 0x20);
+        dsp.write_reg(KON, 0x80);
+        dsp.write_reg(0x79, 0x55);
+        dsp.step(&mut ram);
+        assert_eq!(dsp.voices[7].adsr.envelope_level, 0, "skipped");
+        assert!(dsp.voices[7].key_on, "skipped");
+        assert_eq!(dsp.read_reg(0x79), 0, "skipped");
+    }
+}

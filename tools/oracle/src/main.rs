@@ -1,0 +1,88 @@
+//! The oracle: what every register, RAM byte and sample must be, by the
+//! given Rust. This file is the command line; README.md lists the commands.
+
+use std::fs;
+use std::io::{self, Write};
+use std::process::ExitCode;
+
+mod bytes;
+mod chip;
+mod leaves;
+mod log;
+mod make;
+mod random;
+mod registers;
+mod selfcheck;
+
+const USAGE: &str = "usage: oracle nibble | block | interpolate | envelope | noise | selfcheck \
+    | run LOG RAM [PCM_OUT [RAM_OUT]] | make KIND SEED LOG_OUT RAM_OUT";
+
+fn main() -> ExitCode {
+    let words: Vec<String> = std::env::args().skip(1).collect();
+    let words: Vec<&str> = words.iter().map(String::as_str).collect();
+    match command(&words) {
+        Ok(()) => ExitCode::SUCCESS,
+        Err(message) => {
+            eprintln!("oracle: {message}");
+            ExitCode::from(2)
+        }
+    }
+}
+
+fn command(words: &[&str]) -> Result<(), String> {
+    match words {
+        ["nibble"] => print(&leaves::brr::nibbles()),
+        ["block"] => print(&leaves::brr::blocks()),
+        ["interpolate"] => print(&leaves::interpolate::records()),
+        ["envelope"] => print(&leaves::envelope::records()),
+        ["noise"] => print(&leaves::noise::records()),
+        ["selfcheck"] => {
+            selfcheck::all();
+            print(b"selfcheck: P1 to P11 hold\n")
+        }
+        ["run", log, ram, outputs @ ..] if outputs.len() <= 2 => run(log, ram, outputs),
+        ["make", kind, seed, log, ram] => make(kind, seed, log, ram),
+        _ => Err(USAGE.to_string()),
+    }
+}
+
+fn run(log: &str, ram: &str, outputs: &[&str]) -> Result<(), String> {
+    let result = chip::run(&read(log)?, read_ram(ram)?);
+    // A refused log opens no output.
+    if let Ok(outcome) = &result {
+        for (path, bytes) in outputs.iter().zip([&outcome.pcm[..], &outcome.ram[..]]) {
+            write(path, bytes)?;
+        }
+    }
+    print(chip::report(&result).as_bytes())
+}
+
+fn make(kind: &str, seed: &str, log: &str, ram: &str) -> Result<(), String> {
+    let seed = seed.parse().map_err(|_| format!("{seed} is no seed"))?;
+    let made = make::make(kind, seed).ok_or(format!("{kind} is no kind of log"))?;
+    write(log, &made.log)?;
+    write(ram, &made.ram)
+}
+
+fn print(bytes: &[u8]) -> Result<(), String> {
+    io::stdout()
+        .write_all(bytes)
+        .map_err(|error| format!("standard output: {error}"))
+}
+
+fn read(path: &str) -> Result<Vec<u8>, String> {
+    fs::read(path).map_err(|error| format!("{path}: {error}"))
+}
+
+/// A missing RAM file counts as 0 bytes (document 01).
+fn read_ram(path: &str) -> Result<Vec<u8>, String> {
+    match fs::read(path) {
+        Err(error) if error.kind() == io::ErrorKind::NotFound => Ok(Vec::new()),
+        Err(error) => Err(format!("{path}: {error}")),
+        Ok(bytes) => Ok(bytes),
+    }
+}
+
+fn write(path: &str, bytes: &[u8]) -> Result<(), String> {
+    fs::write(path, bytes).map_err(|error| format!("{path}: {error}"))
+}
