@@ -1,3 +1,5 @@
 pub mod Weights
 pub mod Nibbles
 pub mod Blocks
+pub mod Envelopes
+pub mod Readings

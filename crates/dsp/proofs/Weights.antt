@@ -6,9 +6,9 @@ use Prim.Native.Nat.{ℕ, zero, suc, _+_, _-_, _≤_, _<_}
 use native.Mathlib.Omega.{arith}
 use lib.IntN.{ℤ, pos}
 use lib.ListN.{getD}
-use lib.Signed.{leZ, _≤ℤ_, leZ-yes}
+use lib.Signed.{leZ, _≤ℤ_, leZ-yes, ≤ℤ-refl}
 use Rattle.numbers.proofs.Range.{Q, Within, q-at}
-use Rattle.numbers.proofs.Table.{all, each, table-within, order-at}
+use Rattle.numbers.proofs.Table.{each, table-within, order-at, ≤ℤ-trans}
 use Rattle.dsp.specs.Gauss.{weights, weightAt}
 
 pub weight-within : (i : ℕ) → Within 1833 (weightAt i)
@@ -30,3 +30,17 @@ q-weight i = q-at (weightAt i) 1833 (weight-within i)
 pub entry : (table : List ℤ) (i : ℕ) → table ≡ weights → getD table i (pos 0) ≡ weightAt i
 unfolding weightAt
 entry table i e = ap (λ (t : List ℤ). getD t i (pos 0)) e
+
+-- ---- the order, from neighbours to any two entries, and to the four taps of an index
+
+rises : (i k : ℕ) → i + k < 512 → weightAt i ≤ℤ weightAt (i + k)
+rises i zero h = let z : i + 0 ≡ i = omega arith in rw z (≤ℤ-refl (weightAt i))
+rises i (suc k) h =
+    let z : i + suc k ≡ suc (i + k) = omega arith in
+    rw z (≤ℤ-trans (rises i k (omega arith)) (weights-ordered (i + k) (omega arith)))
+
+-- an outer tap never outweighs the inner one on its side
+pub taps-ordered : (i : ℕ) → i < 256 → (weightAt (255 - i) ≤ℤ weightAt (511 - i)) × (weightAt i ≤ℤ weightAt (i + 256))
+taps-ordered i h =
+    let z : 511 - i ≡ 255 - i + 256 = omega arith in
+    (rw z (rises (255 - i) 256 (omega arith)), rises i 256 (omega arith))

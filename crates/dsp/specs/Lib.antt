@@ -3,3 +3,4 @@ pub mod Brr
 pub mod Gauss
 pub mod Envelope
 pub mod Noise
+pub mod Readings

@@ -5,7 +5,7 @@ use Prim.Native.Nat.{ℕ, zero, suc, _≤_, _<_, zero-le}
 use lib.Dec.{T, leb, leb→le, le→leb}
 use lib.IntN.{ℤ, pos, negsuc}
 use lib.ListN.{getD, length}
-use native.Mathlib.Nat.{not-suc-le-zero, le-of-suc-le-suc}
+use native.Mathlib.Nat.{not-suc-le-zero, le-of-suc-le-suc, le-trans}
 use lib.Signed.{mag, leZ, _≤ℤ_, leZ-yes}
 use Rattle.numbers.proofs.Range.{Within, and-l, and-r}
 
@@ -40,3 +40,15 @@ order-at [] t i h = absurd (not-suc-le-zero h)
 order-at (x ∷ []) t i h = absurd (not-suc-le-zero (le-of-suc-le-suc h))
 order-at (x ∷ y ∷ ys) t zero h = leZ-yes (and-l (leZ x y) (ordered (y ∷ ys)) t)
 order-at (x ∷ y ∷ ys) t (suc i) h = order-at (y ∷ ys) (and-r (leZ x y) (ordered (y ∷ ys)) t) i (le-of-suc-le-suc h)
+
+le-through : (a b c : ℤ) → T (leZ a b) → T (leZ b c) → T (leZ a c)
+le-through (pos a) (pos b) (pos c) p q = le→leb a c (le-trans (leb→le a b p) (leb→le b c q))
+le-through (pos a) (pos b) (negsuc c) p q = absurd q
+le-through (pos a) (negsuc b) c p q = absurd p
+le-through (negsuc a) (pos b) (pos c) p q = tt
+le-through (negsuc a) (pos b) (negsuc c) p q = absurd q
+le-through (negsuc a) (negsuc b) (pos c) p q = tt
+le-through (negsuc a) (negsuc b) (negsuc c) p q = le→leb c a (le-trans (leb→le c b q) (leb→le b a p))
+
+pub ≤ℤ-trans : {a b c : ℤ} → a ≤ℤ b → b ≤ℤ c → a ≤ℤ c
+≤ℤ-trans {a} {b} {c} p q = leZ-yes (le-through a b c (p .le) (q .le))

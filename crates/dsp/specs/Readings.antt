@@ -1,0 +1,61 @@
+-- The readings that document 01 asks to be proved, as one list: what the definitions say beside what the document says.
+use mathlib.Core.Bool.{true, false}
+use mathlib.Core.List.{List, [], _∷_, map}
+use mathlib.Core.Path.{_≡_}
+use Prim.Native.Nat.{ℕ}
+use lib.IntN.{ℤ, pos}
+use Rattle.numbers.specs.Signed.{minus}
+use Rattle.dsp.specs.Brr.{decodeNibble}
+use Rattle.dsp.specs.Envelope.{envelopeTick}
+use Rattle.dsp.specs.Noise.{shifted}
+use Rattle.dsp.specs.declared.adsr.EnvelopePhase.the-variants.{Decay}
+use Rattle.dsp.specs.declared.adsr.Envelope.{Envelope}
+use Rattle.dsp.specs.declared.adsr.Settings.{Settings}
+
+pub record Reading : Type 0 where
+  pub says : ℤ
+  pub wanted : ℤ
+
+infix 3 _reads_
+abbrev pub _reads_ : ℤ → ℤ → Reading
+a reads b = record { says = a; wanted = b }
+
+-- Decay with sustain level 7 and decay rate 0, whose entry 16 has period 64
+abbrev deepest : Settings
+deepest =
+    record {
+      «adsr_mode» = true;
+      «gain_param» = 0;
+      «attack_rate» = 0;
+      «decay_rate» = 0;
+      «sustain_level» = 7;
+      «sustain_rate» = 0;
+    }
+
+abbrev dueDecay : ℕ → Envelope
+dueDecay level = record { level = level; phase = Decay; counter = 63 }
+
+abbrev pub readings : List Reading
+readings =
+    -- P1 nibble -8, shift 12, filter 0
+    (decodeNibble (minus 8) 12 0 (pos 0) (pos 0) reads minus 32768)
+    -- P2 -1, shift 13, filter 0; and 5
+    ∷ (decodeNibble (minus 1) 13 0 (pos 0) (pos 0) reads minus 4096)
+    ∷ (decodeNibble (pos 5) 13 0 (pos 0) (pos 0) reads pos 0)
+    -- P3 shift 0, filter 0: 1, and -1
+    ∷ (decodeNibble (pos 1) 0 0 (pos 0) (pos 0) reads pos 0)
+    ∷ (decodeNibble (minus 1) 0 0 (pos 0) (pos 0) reads minus 2)
+    -- P4 nibble 7, shift 12, filter 2, previous 28672, -28672
+    ∷ (decodeNibble (pos 7) 12 2 (pos 28672) (minus 28672) reads minus 2)
+    -- P5 nibble 0, filter 1, previous 2
+    ∷ (decodeNibble (pos 0) 0 1 (pos 2) (pos 0) reads pos 0)
+    -- P6 noise $4000, and $0001
+    ∷ (pos (shifted 0x4000) reads pos 0x2000)
+    ∷ (pos (shifted 0x0001) reads pos 0x4000)
+    -- P9 Decay due at $7FF, sustain level 7
+    ∷ (pos (envelopeTick deepest (dueDecay 0x7FF) .level) reads pos 0x800)
+    ∷ []
+
+-- the claim
+abbrev pub AllAsTheDocument : Type 0
+AllAsTheDocument = map (λ (r : Reading). r .says) readings ≡ map (λ (r : Reading). r .wanted) readings
