@@ -1,4 +1,7 @@
 pub mod Clock
+pub mod Machine
+pub mod Fit
+pub mod Registers
 pub mod Brr
 pub mod Gauss
 pub mod Envelope

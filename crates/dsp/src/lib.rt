@@ -3,5 +3,13 @@ mod adsr;
 mod brr;
 mod gauss;
 mod noise;
+mod registers;
+mod voice;
 
+pub use adsr::Adsr;
+pub use adsr::EnvelopePhase;
+pub use brr::Brr;
 pub use brr::decode_brr_nibble;
+pub use registers::Answer;
+pub use registers::Dsp;
+pub use voice::Voice;
