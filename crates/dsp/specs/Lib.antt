@@ -6,4 +6,5 @@ pub mod Brr
 pub mod Gauss
 pub mod Envelope
 pub mod Noise
+pub mod Voice
 pub mod Readings

@@ -5,7 +5,7 @@ ghost use Prim.Native.Nat.{_≤_, _<_};
 ghost use Rattle.dsp.specs.Clock.{periods, tickDue};
 ghost use Rattle.dsp.specs.Machine.{newAdsr};
 ghost use Rattle.dsp.specs.Fit.{fitAdsr};
-ghost use Rattle.dsp.specs.Envelope.{FitEnvelope, FitSettings, counted, levelled, risen, lowered, settled, fallenTo, gained, gains, attackTick, decayTick, sustainTick, releaseTick, gainTick, envelopeTick};
+ghost use Rattle.dsp.specs.Envelope.{FitEnvelope, FitSettings, counted, levelled, risen, lowered, settled, fallenTo, gained, isOff, gains, attackTick, decayTick, sustainTick, releaseTick, gainTick, envelopeTick};
 
 // Ticks between two steps for each rate index. Index 0 never fires.
 const ENVELOPE_RATE_TABLE: [u16; 32] = [
@@ -166,6 +166,18 @@ fn gained(mode: u8, level: u16) -> u16
         } else {
             numbers::min(level + 8, 0x7FF)
         },
+    }
+}
+
+pub(crate) fn is_off(phase: EnvelopePhase) -> bool
+    ensures { λ r. ⌜ r ≡ isOff phase ⌝ }
+{
+    match phase {
+        EnvelopePhase::Attack => false,
+        EnvelopePhase::Decay => false,
+        EnvelopePhase::Sustain => false,
+        EnvelopePhase::Release => false,
+        EnvelopePhase::Off => true,
     }
 }
 

@@ -3,6 +3,7 @@ mod adsr;
 mod brr;
 mod gauss;
 mod noise;
+mod play;
 mod registers;
 mod voice;
 
