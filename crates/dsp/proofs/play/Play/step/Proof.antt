@@ -1,6 +1,6 @@
 -- By idleness; each part keeps what the next one requires.
 use borrow.Author.Needs.{needs}
-use mathlib.Core.Path.{_≡_, _∙_, sym, ap}
+use mathlib.Core.Path.{_≡_, _∙_, sym, ap, subst}
 use native.Mathlib.Omega.{arith}
 use Prim.Native.Nat.{_/_, _≤_}
 use lib.ListN.{length}
@@ -24,7 +24,8 @@ after-advance c =
     let s = c .before .before .before .before .before .before .before .before .before .before .before in
     let a = s .args in
     let q : Sounding = record { play = withEnvelope (a .self) (envelopeTick (a .s) (a .self .envelope)); samples = a .samples .now } in
-    rw (c .advanced .ensures, c .before .before .before .resolved .ensures, c .before .before .before .before .before .before .before .update-envelope .ensures)
+    let e = ap (λ (f : Envelope). resolved (a .ram .now) (record { play = withEnvelope (a .self) f; samples = a .samples .now })) (c .before .before .before .before .before .before .before .update-envelope .ensures) in
+    subst (λ (s : Sounding). Apt (s .play)) (sym (c .advanced .ensures ∙ ap (advanced (a .ram .now) (a .dir) (a .srcn) (a .pitch) (a .source)) (c .before .before .before .resolved .ensures ∙ e)))
     (advanced-apt (a .ram .now) (a .dir) (a .srcn) (a .pitch) (a .source) (resolved (a .ram .now) q)
     (resolved-apt (a .ram .now) q (enveloped-apt (a .s) (a .self) (s .pre .4) (fit-apt (a .self) (s .pre .5)))))
 
