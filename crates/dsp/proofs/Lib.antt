@@ -3,3 +3,4 @@ pub mod Nibbles
 pub mod Blocks
 pub mod Envelopes
 pub mod Readings
+pub mod Writes
