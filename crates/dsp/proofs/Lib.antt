@@ -4,3 +4,6 @@ pub mod Blocks
 pub mod Envelopes
 pub mod Readings
 pub mod Writes
+pub mod Tests
+pub mod Turns
+pub mod Fits
