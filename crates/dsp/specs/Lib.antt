@@ -7,4 +7,5 @@ pub mod Gauss
 pub mod Envelope
 pub mod Noise
 pub mod Voice
+pub mod Tick
 pub mod Readings

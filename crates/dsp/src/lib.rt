@@ -2,6 +2,7 @@
 mod adsr;
 mod brr;
 mod gauss;
+mod lane;
 mod noise;
 mod play;
 mod registers;
