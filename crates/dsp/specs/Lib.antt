@@ -6,4 +6,6 @@ pub mod Brr
 pub mod Gauss
 pub mod Envelope
 pub mod Noise
+pub mod Mix
+pub mod Echo
 pub mod Readings
