@@ -38,7 +38,7 @@ impl Glob {
 
     fn store_echo(self, ram: &mut [u8], l: i16, r: i16)
         requires { ⌜ length (now ram) ≡ 0x10000 ⌝ }
-        ensures { ⌜ now (ram .exit) ≡ echoStored self (now (ram .entry)) l r ⌝ }
+        ensures { λ _. ⌜ now (ram .exit) ≡ echoStored self (now (ram .entry)) l r ⌝ }
     {
         let base = self.echo_base();
         let a = numbers::wrapping_add16(base, 0) as usize;
@@ -53,7 +53,7 @@ impl Glob {
 
     fn write_echo(self, ram: &mut [u8], l: i16, r: i16)
         requires { ⌜ length (now ram) ≡ 0x10000 ⌝ }
-        ensures { ⌜ now (ram .exit) ≡ echoWritten self (now (ram .entry)) l r ⌝ }
+        ensures { λ _. ⌜ now (ram .exit) ≡ echoWritten self (now (ram .entry)) l r ⌝ }
     {
         if bit(self.flg, 5) {} else {
             self.store_echo(ram, l, r);
