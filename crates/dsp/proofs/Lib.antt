@@ -4,6 +4,8 @@ pub mod Blocks
 pub mod Envelopes
 pub mod Pitch
 pub mod Plays
+pub mod Outputs
+pub mod Echoes
 pub mod Readings
 pub mod Writes
 pub mod Tests

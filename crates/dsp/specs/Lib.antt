@@ -7,5 +7,7 @@ pub mod Gauss
 pub mod Envelope
 pub mod Noise
 pub mod Voice
+pub mod Mix
+pub mod Echo
 pub mod Tick
 pub mod Readings

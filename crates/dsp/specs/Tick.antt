@@ -186,14 +186,25 @@ cellFrom v p w =
       endx = p .endx;
     }
 
+-- after the poll
+abbrev pub polledOf : Shared → ℕ → Voice → Bool → Sounding
+polledOf c j v endx =
+    record {
+      play = keyedOn (bit (c .kon) j) (c .«dir_base») (v .srcn) (keyedOff (bit (c .koff) j) (playOf endx v));
+      samples = v .brr .«sample_buffer»;
+    }
+
 -- of what all see, RAM, its number, what the voice before gave, and its own record, delay, SRCN and ENVX bytes and ENDX bit
+abbrev pub waitedOf : Shared → List ℕ → ℕ → ℤ → Voice → ℕ → ℕ → ℕ → Bool → Waiting
+waitedOf c ram j prev v delay srcn envx endx =
+    waited ram (c .dir) srcn (settingsOf v) (v .pitch) (sourceOf (c .pmon) j prev) envx (delayOf (bit (c .kon) j) delay) (polledOf c j v endx)
+
+-- NON, and the scaled output
+abbrev pub cellAfter : Shared → ℕ → Voice → Waiting → Cell
+cellAfter c j v w = cellFrom v (noised (bit (c .non) j) (c .noise) (w .play)) w
+
 unfoldable pub cellOf : Shared → List ℕ → ℕ → ℤ → Voice → ℕ → ℕ → ℕ → Bool → Cell
-cellOf c ram j prev v delay srcn envx endx =
-    let on = bit (c .kon) j in
-    let k = keyedOn on (c .«dir_base») (v .srcn) (keyedOff (bit (c .koff) j) (playOf endx v)) in
-    let s = record { play = k; samples = v .brr .«sample_buffer» } in
-    let w = waited ram (c .dir) srcn (settingsOf v) (v .pitch) (sourceOf (c .pmon) j prev) envx (delayOf on delay) s in
-    cellFrom v (noised (bit (c .non) j) (c .noise) (w .play)) w
+cellOf c ram j prev v delay srcn envx endx = cellAfter c j v (waitedOf c ram j prev v delay srcn envx endx)
 
 -- ---- what a lane leaves
 

@@ -8,7 +8,7 @@ ghost use Rattle.dsp.specs.Gauss.{weights};
 ghost use Rattle.dsp.specs.Envelope.{FitSettings};
 ghost use Rattle.dsp.specs.Fit.{FitVoice};
 ghost use Rattle.dsp.specs.Voice.{FitPlay, Sounding};
-ghost use Rattle.dsp.specs.Tick.{playOf, settingsOf, voiceOf, keyedOff, keyedOn, Waiting, waited, noised, sourceOf, withBit, putBytes, newAcc, added, Landed, turned};
+ghost use Rattle.dsp.specs.Tick.{playOf, settingsOf, voiceOf, keyedOff, keyedOn, delayOf, Waiting, waited, noised, sourceOf, withBit, putBytes, newAcc, added, Landed, turned};
 use crate::adsr::Adsr;
 use crate::adsr::Envelope;
 use crate::adsr::EnvelopePhase;
@@ -216,7 +216,18 @@ impl Play {
         ensures { λ r. ⌜ _≡_ {A = Waiting} (record { play = r .play; samples = now (samples .exit); delay = r .delay; envx = r .envx }) (waited (now (ram .entry)) dir srcn s pitch source envx delay (record { play = self; samples = now (samples .entry) })) ⌝ }
     {
         if delay == 0 {
-            let t = self.step(s, pitch, source, envx, dir, srcn, table, rates, ram, samples);
+            let t = self.step(
+                s,
+                pitch,
+                source,
+                envx,
+                dir,
+                srcn,
+                table,
+                rates,
+                ram,
+                samples,
+            );
             let p = t.play;
             Held {
                 play: p,
@@ -231,6 +242,13 @@ impl Play {
             }
         }
     }
+}
+
+// The poll tick is the first of five that the voice does not step in.
+fn delay_of(on: bool, delay: u8) -> u8
+    ensures { λ r. ⌜ r ≡ delayOf on delay ⌝ }
+{
+    if on { 5 } else { delay }
 }
 
 fn source_of(pmon: u8, j: usize, prev: i16) -> Source
@@ -256,7 +274,7 @@ pub(crate) fn with_bit(x: u8, n: usize, on: bool) -> u8
 // ENVX, OUTX (the top byte of the output) and the ENDX bit of voice j.
 fn put_bytes(bytes: &mut [u8], j: usize, envx: u8, out: i16, endx: bool)
     requires { ⌜ (length (now bytes) ≡ 128) × (j < 8) ⌝ }
-    ensures { ⌜ now (bytes .exit) ≡ putBytes j envx out endx (now (bytes .entry)) ⌝ }
+    ensures { λ r. ⌜ now (bytes .exit) ≡ putBytes j envx out endx (now (bytes .entry)) ⌝ }
 {
     bytes[j * 16 + 8] = envx;
     bytes[j * 16 + 9] = numbers::high(out);
@@ -322,10 +340,7 @@ pub(crate) fn lane(
     let p = v.play(bit(bytes[0x7C], j));
     let q = p.keyed_off(off);
     let k = q.keyed_on(on, c.dir_base, v.srcn);
-    let mut wait = delay;
-    if on {
-        wait = 5;
-    }
+    let wait = delay_of(on, delay);
     let source = source_of(c.pmon, j, acc.prev);
     let h = k.waited(
         wait,
