@@ -11,3 +11,4 @@ pub mod Writes
 pub mod Tests
 pub mod Turns
 pub mod Fits
+pub mod Lanes

@@ -186,25 +186,23 @@ cellFrom v p w =
       endx = p .endx;
     }
 
--- after the poll
-abbrev pub polledOf : Shared → ℕ → Voice → Bool → Sounding
-polledOf c j v endx =
-    record {
-      play = keyedOn (bit (c .kon) j) (c .«dir_base») (v .srcn) (keyedOff (bit (c .koff) j) (playOf endx v));
-      samples = v .brr .«sample_buffer»;
-    }
+-- after the poll: KOFF first, then KON
+unfoldable pub polledOf : Shared → ℕ → Voice → Bool → Play
+polledOf c j v endx = keyedOn (bit (c .kon) j) (c .«dir_base») (v .srcn) (keyedOff (bit (c .koff) j) (playOf endx v))
 
--- of what all see, RAM, its number, what the voice before gave, and its own record, delay, SRCN and ENVX bytes and ENDX bit
-abbrev pub waitedOf : Shared → List ℕ → ℕ → ℤ → Voice → ℕ → ℕ → ℕ → Bool → Waiting
-waitedOf c ram j prev v delay srcn envx endx =
-    waited ram (c .dir) srcn (settingsOf v) (v .pitch) (sourceOf (c .pmon) j prev) envx (delayOf (bit (c .kon) j) delay) (polledOf c j v endx)
+-- after the step or the delay: of what all see, RAM, its number, what the voice before gave, and its own record, delay, SRCN
+-- and ENVX bytes, ENDX bit and samples
+unfoldable pub waitedOf : Shared → List ℕ → ℕ → ℤ → Voice → ℕ → ℕ → ℕ → Bool → List ℤ → Waiting
+waitedOf c ram j prev v delay srcn envx endx samples =
+    waited ram (c .dir) srcn (settingsOf v) (v .pitch) (sourceOf (c .pmon) j prev) envx (delayOf (bit (c .kon) j) delay)
+    (record { play = polledOf c j v endx; samples = samples })
 
 -- NON, and the scaled output
-abbrev pub cellAfter : Shared → ℕ → Voice → Waiting → Cell
+unfoldable pub cellAfter : Shared → ℕ → Voice → Waiting → Cell
 cellAfter c j v w = cellFrom v (noised (bit (c .non) j) (c .noise) (w .play)) w
 
 unfoldable pub cellOf : Shared → List ℕ → ℕ → ℤ → Voice → ℕ → ℕ → ℕ → Bool → Cell
-cellOf c ram j prev v delay srcn envx endx = cellAfter c j v (waitedOf c ram j prev v delay srcn envx endx)
+cellOf c ram j prev v delay srcn envx endx = cellAfter c j v (waitedOf c ram j prev v delay srcn envx endx (v .brr .«sample_buffer»))
 
 -- ---- what a lane leaves
 
@@ -214,11 +212,13 @@ withBit x n on =
     if on then bitOr x (2 ^ n) else
     bitAnd x (255 - 2 ^ n)
 
--- ENVX, OUTX and the ENDX bit of voice j
+-- the ENDX bit of voice j
+abbrev pub putEndx : ℕ → Bool → List ℕ → List ℕ
+putEndx j endx bytes = set bytes 0x7C (withBit (getD bytes 0x7C 0) j endx)
+
+-- ENVX, OUTX, which is the output's top byte, and the ENDX bit
 unfoldable pub putBytes : ℕ → ℕ → ℤ → Bool → List ℕ → List ℕ
-putBytes j envx out endx bytes =
-    let shown = set (set bytes (j * 16 + 8) envx) (j * 16 + 9) (highZ out) in
-    set shown 0x7C (withBit (getD shown 0x7C 0) j endx)
+putBytes j envx out endx bytes = putEndx j endx (set (set bytes (j * 16 + 8) envx) (j * 16 + 9) (highZ out))
 
 abbrev pub newAcc : Acc
 newAcc = record { prev = pos 0; dry = silent; input = silent }

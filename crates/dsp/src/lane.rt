@@ -8,7 +8,7 @@ ghost use Rattle.dsp.specs.Gauss.{weights};
 ghost use Rattle.dsp.specs.Envelope.{FitSettings};
 ghost use Rattle.dsp.specs.Fit.{FitVoice};
 ghost use Rattle.dsp.specs.Voice.{FitPlay, Sounding};
-ghost use Rattle.dsp.specs.Tick.{playOf, settingsOf, voiceOf, keyedOff, keyedOn, delayOf, Waiting, waited, noised, sourceOf, withBit, putBytes, newAcc, added, Landed, turned};
+ghost use Rattle.dsp.specs.Tick.{playOf, settingsOf, voiceOf, polledOf, waitedOf, Cell, cellAfter, keyedOff, keyedOn, delayOf, Waiting, waited, noised, sourceOf, withBit, putBytes, newAcc, added, Landed, turned};
 use crate::adsr::Adsr;
 use crate::adsr::Envelope;
 use crate::adsr::EnvelopePhase;
@@ -46,6 +46,15 @@ pub struct Held {
     pub play: Play,
     pub delay: u8,
     pub envx: u8,
+}
+
+// What a voice's tick gives, before it lands in the registers and the sums.
+pub struct Celled {
+    pub voice: Voice,
+    pub delay: u8,
+    pub out: i16,
+    pub envx: u8,
+    pub endx: bool,
 }
 
 // A voice after its lane's tick.
@@ -318,6 +327,73 @@ impl Acc {
     }
 }
 
+// The poll of voice j.
+fn polled(v: Voice, c: Shared, j: usize, endx: bool) -> Play
+    requires { ⌜ j < 8 ⌝ }
+    ensures { λ r. ⌜ r ≡ polledOf c j v endx ⌝ }
+{
+    let p = v.play(endx);
+    let q = p.keyed_off(bit(c.koff, j));
+    q.keyed_on(bit(c.kon, j), c.dir_base, v.srcn)
+}
+
+// The poll, then the step or a tick of the delay. srcn and envx are the voice's bytes, endx its ENDX bit.
+fn stepped(
+    v: Voice,
+    delay: u8,
+    c: Shared,
+    j: usize,
+    prev: i16,
+    srcn: u8,
+    envx: u8,
+    endx: bool,
+    table: &[i16],
+    rates: &[u16],
+    ram: &[u8],
+    samples: &mut [i16],
+) -> Held
+    requires { ⌜ (now table ≡ weights) × (now rates ≡ periods) × (length (now ram) ≡ 0x10000) × (length (now samples) ≡ 16) × (j < 8) × FitVoice v ⌝ }
+    ensures { λ r. ⌜ _≡_ {A = Waiting} (record { play = r .play; samples = now (samples .exit); delay = r .delay; envx = r .envx }) (waitedOf c (now (ram .entry)) j prev v delay srcn envx endx (now (samples .entry))) ⌝ }
+{
+    let p = polled(v, c, j, endx);
+    let wait = delay_of(bit(c.kon, j), delay);
+    let s = v.settings();
+    let source = source_of(c.pmon, j, prev);
+    p.waited(
+        wait,
+        s,
+        v.pitch,
+        source,
+        envx,
+        c.dir,
+        srcn,
+        table,
+        rates,
+        ram,
+        samples,
+    )
+}
+
+// NON, and the scaled output.
+fn finished(v: Voice, c: Shared, j: usize, h: Held, samples: [i16; 16]) -> Celled
+    requires { ⌜ (j < 8) × (h .play .envelope .level ≤ 0x800) ⌝ }
+    ensures { λ r. ⌜ _≡_ {A = Cell} (record { voice = r .voice; delay = r .delay; out = r .out; envx = r .envx; endx = r .endx }) (cellAfter c j v (record { play = h .play; samples = samples; delay = h .delay; envx = h .envx })) ⌝ }
+{
+    let p = h.play;
+    let n = p.noised(bit(c.non, j), c.noise);
+    let e = n.envelope;
+    let phase = e.phase;
+    let out = scaled_output(phase, e.level, n.current_sample);
+    let w = v.with_play(n, samples);
+    Celled {
+        voice: w,
+        delay: h.delay,
+        out,
+        envx: h.envx,
+        endx: n.endx,
+    }
+}
+
 // Voice j for one tick.
 pub(crate) fn lane(
     v: Voice,
@@ -333,40 +409,33 @@ pub(crate) fn lane(
     requires { ⌜ (now table ≡ weights) × (now rates ≡ periods) × (length (now ram) ≡ 0x10000) × (length (now bytes) ≡ 128) × (j < 8) × FitVoice v ⌝ }
     ensures { λ r. ⌜ _≡_ {A = Landed} (record { voice = r .voice; delay = r .delay; out = r .out; acc = r .acc; bytes = now (bytes .exit) }) (turned c (now (ram .entry)) j v delay acc (now (bytes .entry))) ⌝ }
 {
+    let srcn = bytes[j * 16 + 4];
+    let envx = bytes[j * 16 + 8];
+    let endx = bit(bytes[0x7C], j);
     let b = v.brr;
     let mut samples = b.sample_buffer;
-    let off = bit(c.koff, j);
-    let on = bit(c.kon, j);
-    let p = v.play(bit(bytes[0x7C], j));
-    let q = p.keyed_off(off);
-    let k = q.keyed_on(on, c.dir_base, v.srcn);
-    let wait = delay_of(on, delay);
-    let source = source_of(c.pmon, j, acc.prev);
-    let h = k.waited(
-        wait,
-        v.settings(),
-        v.pitch,
-        source,
-        bytes[j * 16 + 8],
-        c.dir,
-        bytes[j * 16 + 4],
+    let h = stepped(
+        v,
+        delay,
+        c,
+        j,
+        acc.prev,
+        srcn,
+        envx,
+        endx,
         table,
         rates,
         ram,
         &mut samples,
     );
-    let hp = h.play;
-    let n = hp.noised(bit(c.non, j), c.noise);
-    let e = n.envelope;
-    let phase = e.phase;
-    let out = scaled_output(phase, e.level, n.current_sample);
-    put_bytes(bytes, j, h.envx, out, n.endx);
-    let a = acc.added(bit(c.eon, j), out, v.left_vol, v.right_vol);
-    let w = v.with_play(n, samples);
+    let x = finished(v, c, j, h, samples);
+    put_bytes(bytes, j, x.envx, x.out, x.endx);
+    let a = acc.added(bit(c.eon, j), x.out, v.left_vol, v.right_vol);
+    let w = x.voice;
     Turned {
         voice: w,
-        delay: h.delay,
-        out,
+        delay: x.delay,
+        out: x.out,
         acc: a,
     }
 }

@@ -1,28 +1,25 @@
+-- By the bit; the mask is a power of two below 256.
 use borrow.Author.Needs.{needs}
+use native.Mathlib.Nat.{one-mul, mod-eq-of-lt}
+use lib.Pow.{pow-lt}
+use Rattle.dsp.specs.Tick.{withBit}
 use Rattle.dsp.proofs.lane.with_bit.Statement.{statement}
 use Rattle.dsp.proofs.lane.with_bit.Tie as tie
-use Rattle.dsp.proofs.lane.with_bit.Reads as reads
-use Rattle.dsp.proofs.lane.with_bit.Lts as lts
 
--- src/lane.rt:270:25
-cast-mask : tie.Need-cast-mask
-cast-mask c = search needs
-
--- src/lane.rt:270:20
-shl-mask : tie.Need-shl-mask
-shl-mask c = search needs
-
--- src/lane.rt:271:36
-sub-result : tie.Need-sub-result
-sub-result c = search needs
-
--- src/lane.rt:266:1
 returns : tie.Need-returns
-returns c = ?
+unfolding withBit
+returns c = rw (c .if1 .taken, one-mul, mod-eq-of-lt (pow-lt (c .before .pre)))
 
--- src/lane.rt:266:1
 returns-2 : tie.Need-returns-2
-returns-2 c = ?
+unfolding withBit
+returns-2 c = rw (c .if1 .left, one-mul, mod-eq-of-lt (pow-lt (c .before .pre)))
 
 pub with-bit-spec : {M : Type 1} → statement M
-with-bit-spec = tie.close (tie.spec cast-mask shl-mask sub-result returns returns-2)
+with-bit-spec =
+    tie.close
+    (tie.spec
+    (λ c. search needs)
+    (λ c. search needs)
+    (λ c. search needs)
+    returns
+    returns-2)

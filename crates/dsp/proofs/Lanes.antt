@@ -1,0 +1,107 @@
+-- A lane keeps its voice fit.
+use mathlib.Core.Bool.{Bool, true, false, not, _&&_}
+use mathlib.Core.List.{List}
+use mathlib.Core.Logic.{inl}
+use mathlib.Core.Path.{_≡_, refl}
+use Prim.Native.Nat.{ℕ, _-_, _≤_, _<_}
+use native.Mathlib.Omega.{arith}
+use lib.IntN.{ℤ}
+use lib.ListN.{length}
+use Rattle.numbers.specs.Choice.{if_then_else_, _=?_}
+use Rattle.numbers.proofs.Choice.{chosen}
+use Rattle.dsp.specs.Envelope.{FitEnvelope, FitSettings, isOff}
+use Rattle.dsp.specs.Fit.{FitVoice}
+use Rattle.dsp.specs.Mix.{bit}
+use Rattle.dsp.specs.Voice.{FitPlay, FitBlock, Sounding, Stepped, voiceStep}
+use Rattle.dsp.specs.Tick.{playOf, settingsOf, voiceOf, keyedOff, keyedOn, delayOf, Waiting, letStep, waited, noised, sourceOf, polledOf, waitedOf, Cell, cellFrom, cellAfter, cellOf}
+use Rattle.dsp.specs.declared.adsr.Settings.{Settings}
+use Rattle.dsp.specs.declared.voice.Voice.{Voice}
+use Rattle.dsp.specs.declared.play.Source.{Source}
+use Rattle.dsp.specs.declared.play.Play.{Play}
+use Rattle.dsp.specs.declared.lane.Shared.{Shared}
+use Rattle.dsp.proofs.Plays.{FitStepped, fit-kept-step}
+
+pub settings-fit : (v : Voice) → FitVoice v → FitSettings (settingsOf v)
+settings-fit v h = record { attack = h .adsr .attack; decay = h .adsr .decay; target = h .adsr .target; sustain = h .adsr .sustain }
+
+play-fit : (endx : Bool) (v : Voice) → FitVoice v → FitPlay (playOf endx v)
+play-fit endx v h =
+    record {
+      envelope = record { level = h .adsr .level; counter = h .adsr .counter };
+      position = h .position;
+      block = record { nibble = h .brr .nibble; fill = h .brr .fill };
+    }
+
+off-fit : (on : Bool) (p : Play) → FitPlay p → FitPlay (keyedOff on p)
+unfolding keyedOff
+off-fit on p h =
+    chosen FitPlay (on && not (isOff (p .envelope .phase)))
+    (record { envelope = record { level = h .envelope .level; counter = h .envelope .counter }; position = h .position; block = record { nibble = h .block .nibble; fill = h .block .fill } })
+    h
+
+on-fit : (on : Bool) (dir srcn : ℕ) (p : Play) → FitPlay p → FitPlay (keyedOn on dir srcn p)
+unfolding keyedOn
+on-fit on dir srcn p h =
+    chosen FitPlay on
+    (record { envelope = record { level = omega arith; counter = omega arith }; position = omega arith; block = record { nibble = omega arith; fill = inl refl } })
+    h
+
+pub polled-fit : (c : Shared) (j : ℕ) (v : Voice) (endx : Bool) → FitVoice v → FitPlay (polledOf c j v endx)
+unfolding polledOf
+polled-fit c j v endx h =
+    let p = keyedOff (bit (c .koff) j) (playOf endx v) in
+    on-fit (bit (c .kon) j) (c .«dir_base») (v .srcn) p (off-fit (bit (c .koff) j) (playOf endx v) (play-fit endx v h))
+
+pub record FitWaiting (w : Waiting) : Type 0 where
+  pub sized : length (w .samples) ≡ 16
+  pub play : FitPlay (w .play)
+  pub delay : w .delay ≤ 5
+
+waited-fit : (ram : List ℕ) (dir srcn : ℕ) (f : Settings) (pitch : ℕ) (x : Source) (envx delay : ℕ) (s : Sounding) → FitSettings f
+    → length (s .samples) ≡ 16 → FitPlay (s .play) → delay ≤ 5 → FitWaiting (waited ram dir srcn f pitch x envx delay s)
+unfolding waited
+waited-fit ram dir srcn f pitch x envx delay s g l h d =
+    let t = fit-kept-step ram dir srcn f pitch x envx s g l h in
+    chosen FitWaiting (delay =? 0) (record { sized = t .sized; play = t .play; delay = omega arith }) (record { sized = l; play = h; delay = omega arith })
+
+pub fit-kept-waited : (c : Shared) (ram : List ℕ) (j : ℕ) (prev : ℤ) (v : Voice) (delay srcn envx : ℕ) (endx : Bool) (samples : List ℤ)
+    → length samples ≡ 16 → FitVoice v → delay ≤ 5 → FitWaiting (waitedOf c ram j prev v delay srcn envx endx samples)
+unfolding waitedOf
+fit-kept-waited c ram j prev v delay srcn envx endx samples l h d =
+    waited-fit ram (c .dir) srcn (settingsOf v) (v .pitch) (sourceOf (c .pmon) j prev) envx (delayOf (bit (c .kon) j) delay)
+    (record { play = polledOf c j v endx; samples = samples }) (settings-fit v h) l (polled-fit c j v endx h)
+    (chosen (λ (n : ℕ). n ≤ 5) (bit (c .kon) j) (omega arith) d)
+
+pub record FitCell (x : Cell) : Type 0 where
+  pub voice : FitVoice (x .voice)
+  pub delay : x .delay ≤ 5
+
+pub after-fit : (c : Shared) (j : ℕ) (v : Voice) (w : Waiting) → FitVoice v → FitWaiting w → FitCell (cellAfter c j v w)
+unfolding cellAfter noised
+after-fit c j v w h k =
+    record {
+      voice =
+          record {
+            pitch = h .pitch;
+            position = k .play .position;
+            adsr =
+                record {
+                  level = k .play .envelope .level;
+                  counter = k .play .envelope .counter;
+                  attack = h .adsr .attack;
+                  decay = h .adsr .decay;
+                  target = h .adsr .target;
+                  sustain = h .adsr .sustain;
+                };
+            brr = record { nibble = k .play .block .nibble; fill = k .play .block .fill };
+          };
+      delay = k .delay;
+    }
+
+-- what a lane makes of a fit voice
+pub fit-kept-cell : (c : Shared) (ram : List ℕ) (j : ℕ) (prev : ℤ) (v : Voice) (delay srcn envx : ℕ) (endx : Bool)
+    → length (v .brr .«sample_buffer») ≡ 16 → FitVoice v → delay ≤ 5 → FitCell (cellOf c ram j prev v delay srcn envx endx)
+unfolding cellOf
+fit-kept-cell c ram j prev v delay srcn envx endx l h d =
+    after-fit c j v (waitedOf c ram j prev v delay srcn envx endx (v .brr .«sample_buffer»)) h
+    (fit-kept-waited c ram j prev v delay srcn envx endx (v .brr .«sample_buffer») l h d)
