@@ -5,3 +5,7 @@ pub mod Envelopes
 pub mod Outputs
 pub mod Echoes
 pub mod Readings
+pub mod Writes
+pub mod Tests
+pub mod Turns
+pub mod Fits
