@@ -1,6 +1,6 @@
 -- Laws of the echo: what bounds a fit pointer, what one side's calls give, and that a tick keeps the echo's numbers fit.
 use mathlib.Core.List.{List}
-use mathlib.Core.Logic.{_⊎_, inl, inr}
+use mathlib.Core.Logic.{_⊎_, inl, inr, ⊎-elim}
 use mathlib.Core.Path.{_≡_, refl, _∙_, ap}
 use Prim.Native.Nat.{ℕ, _+_, _%_, _≤_, _<_}
 use native.Mathlib.Decide.{decLe}
@@ -18,12 +18,8 @@ use Rattle.dsp.specs.Echo.{echoRead, lengthNow, pointerNext, echoMoved, 
 use Rattle.dsp.specs.Fit.{FitGlob}
 use Rattle.dsp.specs.declared.registers.Glob.{Glob}
 
-low-by : (g : Glob) → FitGlob g → (g .«echo_ptr» ≡ 0) ⊎ (g .«echo_ptr» < g .«echo_len») → g .«echo_ptr» ≤ 30720
-low-by g f (inl e) = omega arith
-low-by g f (inr l) = omega (arith, f .most)
-
 pub pointer-low : (g : Glob) → FitGlob g → g .«echo_ptr» ≤ 30720
-pointer-low g f = low-by g f (f .within)
+pointer-low g f = ⊎-elim (λ e. omega arith) (λ l. omega (arith, f .most)) (f .within)
 
 -- ---- one side: its history h, its output y and what it feeds back, z, which the machine reads from their bits
 module _ (g : Glob) (ram : List ℕ) (taps : List ℤ) (k : ℕ) (history : List ℤ) (input : ℤ) where

@@ -9,20 +9,26 @@ use Rattle.dsp.proofs.registers.Glob.tick_echo.Tie as tie
 returns : tie.Need-returns
 unfolding echoTick
 returns c =
-    let fed-r = c .before .before .before .before .before in
-    let fed-l = c .before .before .before .before .before .before .before .before in
-    let firs = c .before .before .before .before .before .before .before .before .before .before .before in
-    let moves = c .before .before .before .before .before .before .before .before .before .before .before .before .before in
-    let reads = c .before .before .before .before .before .before .before .before .before .before .before .before .before .before .before in
-    let a = c .before .before .before .before .before .before .before .before .before .before .before .before .before .before .before .before .before .before .before .before .args in
-    let efb = c .before .before .before .before .before .before .before .before .before .struct-told2 .given .1 .1 .1 .1 .1 .1 .1 .1 .1 .1 .1 .0 .1 in
-    let l = side-is (a .self) (a .ram .now) (a .taps) 0 (a .left) (a .input .l) _ _ _ _ (reads .before .before .read-echo-sample .ok) (firs .before .fir .ok) (fed-l .fed-back .ok) (c .before .before .before .before .before .before .before .before .before .before .struct-told .given .0 .1) efb (reads .before .before .read-echo-sample .ensures) (moves .before .moved-on .ensures) (firs .before .fir .ensures) (fed-l .fed-back .ensures) in
-    let r = side-is (a .self) (a .ram .now) (a .taps) 2 (a .right) (a .input .r) _ _ _ _ (reads .read-echo-sample2 .ok) (firs .fir2 .ok) (fed-r .fed-back2 .ok) (c .before .before .before .before .before .before .before .before .before .before .struct-told .given .1 .0 .1) efb (reads .read-echo-sample2 .ensures) (moves .moved-on2 .ensures) (firs .fir2 .ensures) (fed-r .fed-back2 .ensures) in
+    let write = c .before .before .before in
+    let fed-r = write .before .before in
+    let fed-l = fed-r .before .before .before in
+    let told = fed-l .before in
+    let fir-r = told .before .before in
+    let fir-l = fir-r .before in
+    let moved-r = fir-l .before in
+    let moved-l = moved-r .before in
+    let read-r = moved-l .before in
+    let read-l = read-r .before .before in
+    let a = read-l .before .before .before .args in
+    let input = told .before .struct-told .given in
+    let efb = told .struct-told2 .given .1 .1 .1 .1 .1 .1 .1 .1 .1 .1 .1 .0 .1 in
+    let l = side-is (a .self) (a .ram .now) (a .taps) 0 (a .left) (a .input .l) _ _ _ _ (read-l .read-echo-sample .ok) (fir-l .fir .ok) (fed-l .fed-back .ok) (input .0 .1) efb (read-l .read-echo-sample .ensures) (moved-l .moved-on .ensures) (fir-l .fir .ensures) (fed-l .fed-back .ensures) in
+    let r = side-is (a .self) (a .ram .now) (a .taps) 2 (a .right) (a .input .r) _ _ _ _ (read-r .read-echo-sample2 .ok) (fir-r .fir2 .ok) (fed-r .fed-back2 .ok) (input .1 .0 .1) efb (read-r .read-echo-sample2 .ensures) (moved-r .moved-on2 .ensures) (fir-r .fir2 .ensures) (fed-r .fed-back2 .ensures) in
     λ i. record {
       glob = (c .echo-moved .ensures ∙ (λ j. echoMoved (a .self) (l .echo j) (r .echo j))) i;
       left = l .moved i;
       right = r .moved i;
-      ram = (c .before .before .before .write-echo .ensures ∙ (λ j. echoWritten (a .self) (a .ram .now) (l .fed j) (r .fed j))) i;
+      ram = (write .write-echo .ensures ∙ (λ j. echoWritten (a .self) (a .ram .now) (l .fed j) (r .fed j))) i;
     }
 
 pub tick-echo-spec : {M : Type 1} → statement M
