@@ -5,6 +5,7 @@ use mathlib.Core.Path.{_≡_}
 use Prim.Native.Nat.{ℕ}
 use lib.IntN.{ℤ, pos}
 use Rattle.numbers.specs.Signed.{minus}
+use Rattle.sound.specs.Sound.{mastered}
 use Rattle.dsp.specs.Brr.{decodeNibble}
 use Rattle.dsp.specs.Envelope.{envelopeTick}
 use Rattle.dsp.specs.Noise.{shifted}
@@ -54,6 +55,8 @@ readings =
     ∷ (pos (shifted 0x0001) reads pos 0x4000)
     -- P9 Decay due at $7FF, sustain level 7
     ∷ (pos (envelopeTick deepest (dueDecay 0x7FF) .level) reads pos 0x800)
+    -- P10 dry -32768, master -128
+    ∷ (mastered (minus 32768) (minus 128) (pos 0) (pos 0) reads minus 32768)
     ∷ []
 
 -- the claim

@@ -1,6 +1,6 @@
 // The echo: the pair at its pointer goes through the filter, and back into RAM with feedback.
 ghost use mathlib.Core.Path.{_≡_};
-ghost use Prim.Native.Nat.{_<_, _≤_};
+ghost use Prim.Native.Nat.{_<_};
 ghost use lib.ListN.{length};
 ghost use Rattle.dsp.specs.Fit.{FitGlob};
 ghost use Rattle.numbers.specs.Unsigned.{wrapped};

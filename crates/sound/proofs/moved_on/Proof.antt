@@ -1,6 +1,6 @@
 -- Each element lands in the new array as it is.
 use borrow.Author.Needs.{needs}
-use mathlib.Core.List.{List, [], _∷_}
+use mathlib.Core.List.{List, _∷_}
 use mathlib.Core.Path.{_≡_, refl}
 use lib.IntN.{ℤ}
 use mir.Syntax.{w16}
