@@ -4,7 +4,8 @@ use mathlib.Core.List.{List}
 use mathlib.Core.Path.{_≡_, refl}
 use Prim.Native.Nat.{ℕ, zero, suc, _/_, _%_, _≤_, _<_}
 use native.Mathlib.Omega.{arith}
-use lib.ListN.{getD}
+use lib.ListN.{getD, set}
+use borrow.Author.Needs.{needs}
 use borrow.Author.Count.{below-none, below-more}
 use Rattle.numbers.specs.Choice.{_<?_, _=?_}
 use Rattle.numbers.proofs.Choice.{chosen}
@@ -24,30 +25,32 @@ use Rattle.dsp.proofs.Turns.{turns-keep, set-keeps}
 adsr-fit : (a : Adsr) → Decides (fitAdsr a) (FitAdsr a)
 adsr-fit a =
     restated
-    (λ h. record { level = h .0 .0 .0 .0 .0; counter = h .0 .0 .0 .0 .1; attack = h .0 .0 .0 .1; decay = h .0 .0 .1; target = h .0 .1; sustain = h .1 })
-    (λ h. (((((h .level, h .counter), h .attack), h .decay), h .target), h .sustain))
     (le (a .«envelope_level») 0x800 and le (a .«tick_counter») 2047 and le (a .«attack_rate») 15 and le (a .«decay_rate») 7
     and le (a .«sustain_level») 7 and le (a .«sustain_rate») 31)
+    (λ h. search needs)
+    (λ h. search needs)
 
 brr-fit : (b : Brr) → Decides (fitBrr b) (FitBrr b)
 brr-fit b =
-    restated (λ h. record { nibble = h .0; fill = h .1 }) (λ h. (h .nibble, h .fill))
+    restated
     (le (b .«nibble_idx») 15 and (eq (b .«buffer_fill») 0 or eq (b .«buffer_fill») 16))
+    (λ h. search needs)
+    (λ h. search needs)
 
 voice-fit : (v : Voice) → Decides (fitVoice v) (FitVoice v)
 voice-fit v =
     restated
-    (λ h. record { pitch = h .0 .0 .0; position = h .0 .0 .1; adsr = h .0 .1; brr = h .1 })
-    (λ h. (((h .pitch, h .position), h .adsr), h .brr))
     (le (v .pitch) 0x3FFF and le (v .«pitch_counter») 0x7FFF and adsr-fit (v .adsr) and brr-fit (v .brr))
+    (λ h. search needs)
+    (λ h. search needs)
 
 glob-fit : (g : Glob) → Decides (fitGlob g) (FitGlob g)
 glob-fit g =
     restated
-    (λ h. record { counter = h .0 .0 .0 .0 .0 .0 .0; lfsr = h .0 .0 .0 .0 .0 .0 .1; delay = h .0 .0 .0 .0 .0 .1; even = h .0 .0 .0 .0 .1; pages = h .0 .0 .0 .1; most = h .0 .0 .1; pairs = h .0 .1; within = h .1 })
-    (λ h. (((((((h .counter, h .lfsr), h .delay), h .even), h .pages), h .most), h .pairs), h .within))
     (le (g .noise .counter) 2047 and le (g .noise .lfsr) 0x7FFF and le (g .edl) 15 and eq (g .pmon % 2) 0 and eq (g .«echo_len» % 2048) 0
     and le (g .«echo_len») 30720 and eq (g .«echo_ptr» % 4) 0 and (eq (g .«echo_ptr») 0 or lt (g .«echo_ptr») (g .«echo_len»)))
+    (λ h. search needs)
+    (λ h. search needs)
 
 -- a voice and its delay
 abbrev FitAt : Dsp → ℕ → Type 0
@@ -55,12 +58,12 @@ FitAt d n = FitVoice (getD (d .voices) n noVoice) × (getD (d .«kon_delay») n 
 
 voices-fit : (d : Dsp) (k : ℕ) → Decides (fitVoices d k) (FitGlob (globOf d) × ((n : ℕ) → n < k → FitAt d n))
 unfolding fitVoices
-voices-fit d zero = restated (λ h. (h, below-none (FitAt d))) (λ h. h .0) (glob-fit (globOf d))
+voices-fit d zero = restated (glob-fit (globOf d)) (λ h. (h, below-none (FitAt d))) (λ h. h .0)
 voices-fit d (suc k) =
     restated
-    (λ h. (h .0 .0 .0, λ n l. below-more (FitAt d) k (h .0 .0 .1) (h .0 .1, h .1) n (omega arith)))
-    (λ h. (((h .0, λ n l. h .1 n (omega arith)), h .1 k (omega arith) .0), h .1 k (omega arith) .1))
     (voices-fit d k and voice-fit (getD (d .voices) k noVoice) and le (getD (d .«kon_delay») k 0) 5)
+    (λ h. (h .0 .0 .0, λ n l. below-more (FitAt d) k (h .0 .0 .1) (h .0 .1, h .1) n (omega arith)))
+    (λ h. let v = h .1 k (omega arith) in (((h .0, λ n l. h .1 n (omega arith)), v .0), v .1))
 
 pub fit-facts : (d : Dsp) → fit d ≡ true → Fit d
 unfolding fit
@@ -107,43 +110,29 @@ glob-write-fit i x g h =
       within = h .within;
     }
 
-abbrev AllFit : List Voice → Type 0
+abbrev pub AllFit : List Voice → Type 0
 AllFit vs = (n : ℕ) → n < 8 → FitVoice (getD vs n noVoice)
 
+pub set-fit : (vs : List Voice) (n : ℕ) (v : Voice) → FitVoice v → AllFit vs → AllFit (set vs n v)
+set-fit vs n v p h m l = set-keeps FitVoice noVoice vs n v p m (h m l)
+
 silenced-fit : (v : Voice) → FitVoice v → FitVoice (silenced v)
-silenced-fit v h =
-    record {
-      pitch = h .pitch;
-      position = h .position;
-      adsr =
-          record {
-            level = omega arith;
-            counter = h .adsr .counter;
-            attack = h .adsr .attack;
-            decay = h .adsr .decay;
-            target = h .adsr .target;
-            sustain = h .adsr .sustain;
-          };
-      brr = h .brr;
-    }
+silenced-fit v h = search needs
 
 silence-fit : (vs : List Voice) → AllFit vs → AllFit (silenceAll vs)
 unfolding silenceAll silenceVoice
 silence-fit vs h =
-    turns-keep AllFit silenceVoice 8
-    (λ n ws l k m j. set-keeps FitVoice noVoice ws n (silenced (getD ws n noVoice)) (silenced-fit (getD ws n noVoice) (k n l)) m (k m j))
-    8 vs (omega arith) h
+    turns-keep AllFit silenceVoice 8 (λ n ws l k. set-fit ws n _ (silenced-fit (getD ws n noVoice) (k n l)) k) 8 vs (omega arith) h
 
 pub fit-kept-write : (i x : ℕ) (d : Dsp) → i < 128 → x < 256 → Fit d → Fit (writeAt i x d)
 unfolding writeAt writeParts
 fit-kept-write i x d li lx h =
-    let w : Voice = writeVoice (i % 16) x (getD (d .voices) (i / 16) noVoice) in
-    let fw : FitVoice w = write-fit (i % 16) x (getD (d .voices) (i / 16) noVoice) lx (h .voices (i / 16) (omega arith)) in
+    let v = getD (d .voices) (i / 16) noVoice in
     record {
       glob = glob-write-fit i x (globOf d) (h .glob);
       voices =
           chosen AllFit (i % 16 <? 8)
-          (λ n l. set-keeps FitVoice noVoice (d .voices) (i / 16) w fw n (h .voices n l))
+          (set-fit (d .voices) (i / 16) _ (write-fit (i % 16) x v lx (h .voices (i / 16) (omega arith))) (h .voices))
           (chosen AllFit (resets i x) (silence-fit (d .voices) (h .voices)) (h .voices));
       delays = h .delays;
     }

@@ -20,8 +20,8 @@ pub eq : (m n : ℕ) → Decides (m =? n) (m ≡ n)
 eq m n = record { sound = eqb-true m n; holds = eq-eqb m n }
 
 -- of facts that imply each other
-pub restated : {b : Bool} {P Q : Type 0} → (P → Q) → (Q → P) → Decides b P → Decides b Q
-restated f g t = record { sound = λ e. f (t .sound e); holds = λ q. t .holds (g q) }
+pub restated : {b : Bool} {P Q : Type 0} → Decides b P → (P → Q) → (Q → P) → Decides b Q
+restated t f g = record { sound = λ e. f (t .sound e); holds = λ q. t .holds (g q) }
 
 both : (a b : Bool) → (a && b) ≡ true → (a ≡ true) × (b ≡ true)
 both true b h = (refl, h)

@@ -9,7 +9,7 @@ use lib.IntN.{ℤ, pos}
 use lib.ListN.{getD, set}
 use lib.Dec.{eqb}
 use borrow.Author.Tests.{lt-ltb, le-ltb, le-leb, lt-leb, eq-eqb, ne-eqb}
-use Rattle.numbers.specs.Choice.{if_then_else_, _=?_}
+use Rattle.numbers.specs.Choice.{_=?_}
 use Rattle.numbers.specs.Signed.{cutZ}
 use Rattle.numbers.proofs.Choice.{chosen}
 use Rattle.dsp.specs.Machine.{noVoice, globOf, together}
