@@ -143,6 +143,14 @@ impl Voice {
     }
 }
 
+impl Brr {
+    fn samples(self) -> [i16; 16]
+        ensures { λ r. ⌜ r ≡ self .«sample_buffer» ⌝ }
+    {
+        self.sample_buffer
+    }
+}
+
 impl Play {
     // A polled KOFF bit: release, unless the phase is Off.
     fn keyed_off(mut self, on: bool) -> Self
@@ -406,14 +414,14 @@ pub(crate) fn lane(
     ram: &[u8],
     bytes: &mut [u8],
 ) -> Turned
-    requires { ⌜ (now table ≡ weights) × (now rates ≡ periods) × (length (now ram) ≡ 0x10000) × (length (now bytes) ≡ 128) × (j < 8) × FitVoice v ⌝ }
+    requires { ⌜ (now table ≡ weights) × (now rates ≡ periods) × (length (now ram) ≡ 0x10000) × (length (now bytes) ≡ 128) × (j < 8) × FitVoice v × (delay ≤ 5) ⌝ }
     ensures { λ r. ⌜ _≡_ {A = Landed} (record { voice = r .voice; delay = r .delay; out = r .out; acc = r .acc; bytes = now (bytes .exit) }) (turned c (now (ram .entry)) j v delay acc (now (bytes .entry))) ⌝ }
 {
     let srcn = bytes[j * 16 + 4];
     let envx = bytes[j * 16 + 8];
     let endx = bit(bytes[0x7C], j);
     let b = v.brr;
-    let mut samples = b.sample_buffer;
+    let mut samples = b.samples();
     let h = stepped(
         v,
         delay,
@@ -430,8 +438,8 @@ pub(crate) fn lane(
     );
     let x = finished(v, c, j, h, samples);
     put_bytes(bytes, j, x.envx, x.out, x.endx);
-    let a = acc.added(bit(c.eon, j), x.out, v.left_vol, v.right_vol);
     let w = x.voice;
+    let a = acc.added(bit(c.eon, j), x.out, w.left_vol, w.right_vol);
     Turned {
         voice: w,
         delay: x.delay,

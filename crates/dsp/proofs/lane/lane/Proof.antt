@@ -1,95 +1,75 @@
+-- The callees, with the read-backs removed; a fit voice has a level that keeps its output to 16 bits.
 use borrow.Author.Needs.{needs}
+use mathlib.Core.Path.{_≡_, _∙_, sym, ap, subst}
+use Prim.Native.Nat.{_+_, _*_, _≤_}
+use lib.ListN.{length, getD}
+use mir.Syntax.{w8, w16}
+use Rattle.numbers.proofs.Range.{landed}
+use Rattle.dsp.specs.Tick.{Waiting, waitedOf, Cell, cellAfter, cellOf, added, putBytes, Landed, turned}
+use Rattle.dsp.specs.Tick as ticks
+use Rattle.dsp.proofs.Lanes.{fit-kept-waited}
 use Rattle.dsp.proofs.lane.lane.Statement.{statement}
 use Rattle.dsp.proofs.lane.lane.Tie as tie
-use Rattle.dsp.proofs.lane.lane.Reads as reads
-use Rattle.dsp.proofs.lane.lane.Lts as lts
-use Rattle.dsp.proofs.lane.Acc.added.Reads as added-reads
-use Rattle.dsp.proofs.lane.finished.Reads as finished-reads
-use Rattle.dsp.proofs.lane.put_bytes.Reads as put-bytes-reads
-use Rattle.dsp.proofs.lane.stepped.Reads as stepped-reads
-use Rattle.dsp.proofs.mix.bit.Reads as bit-reads
 
--- src/lane.rt:412:22
-mul-srcn : tie.Need-mul-srcn
-mul-srcn c = search needs
+sized : (c : tie.After-samples) → length (c .samples .result) ≡ 16
+sized c = search needs
 
--- src/lane.rt:412:22
-add-srcn : tie.Need-add-srcn
-add-srcn c = search needs
+-- the level after the step
+low : (c : tie.After-stepped) → c .stepped .result .play .envelope .level ≤ 0x800
+low c =
+    let s = c .before .before .before .before .before .before .before .before .before .before .before .before in
+    subst (λ (w : Waiting). w .play .envelope .level ≤ 0x800) (sym (c .stepped .ensures))
+    (fit-kept-waited _ _ _ _ _ _ _ _ _ _ (sized (c .before .before .before)) (s .pre .5) (s .pre .6) .play .envelope .level)
 
--- src/lane.rt:412:16
-slice-read-srcn : tie.Need-slice-read-srcn
-slice-read-srcn c = search needs
-
--- src/lane.rt:413:22
-mul-envx : tie.Need-mul-envx
-mul-envx c = search needs
-
--- src/lane.rt:413:22
-add-envx : tie.Need-add-envx
-add-envx c = search needs
-
--- src/lane.rt:413:16
-slice-read-envx : tie.Need-slice-read-envx
-slice-read-envx c = search needs
-
--- src/lane.rt:414:20
-slice-read-bit : tie.Need-slice-read-bit
-slice-read-bit c = search needs
-
--- src/lane.rt:414:9
-bit-requires : tie.Need-bit-requires
-bit-requires c κs = search needs
-
--- src/lane.rt:429:9
-slice-aggregate-stepped : tie.Need-slice-aggregate-stepped
-slice-aggregate-stepped c = ?
-
--- src/lane.rt:417:9
-stepped-requires : tie.Need-stepped-requires
-stepped-requires c κs = ?
-
--- src/lane.rt:431:9
 finished-requires : tie.Need-finished-requires
-finished-requires c κs = ?
+finished-requires c κs =
+    (c .before .before .before .before .before .before .before .before .before .before .before .before .before .pre .4, low (c .before))
 
--- src/lane.rt:432:5
 put-bytes-requires : tie.Need-put-bytes-requires
-put-bytes-requires c κs = ?
+put-bytes-requires c κs =
+    (c .before .before .before .before .before .before .before .before .before .before .before .before .before .before .before .before .pre .3, c .before .before .before .before .before .before .before .before .before .before .before .before .before .before .before .before .pre .4)
 
--- src/lane.rt:433:23
 bit-requires-2 : tie.Need-bit-requires-2
-bit-requires-2 c κs = ?
+bit-requires-2 c κs =
+    c .before .before .before .before .before .before .before .before .before .before .before .before .before .before .before .before .before .before .before .before .pre .4
 
--- src/lane.rt:433:9
-added-requires : tie.Need-added-requires
-added-requires c κs = search needs
-
--- src/lane.rt:398:1
-same-length : tie.Need-same-length
-same-length c = search needs
-
--- src/lane.rt:398:1
 returns : tie.Need-returns
-returns c = ?
+unfolding turned cellOf
+returns c =
+    let a = c .before .before .before .before .before .before .before .before .before .before .before .before .before .before .before .before .before .before .before .before .before .before .before .before .before .before .args in
+    let x = c .before .before .before .before .before .before .before .before .before .before .before .before .finished .result in
+    let o = landed w16 {z = x .out} (c .before .before .before .before .before .before .before .before .before .before .struct-told2 .given .1 .1 .0 .1) in
+    let l = landed w8 {z = x .voice .«left_vol»} (c .before .before .before .struct-told4 .given .0 .1) in
+    let r = landed w8 {z = x .voice .«right_vol»} (c .before .before .struct-told5 .given .1 .0 .1) in
+    let e = landed w16 {z = a .acc .prev} (c .before .before .before .before .before .before .before .before .before .before .before .before .before .before .before .struct-told .given .0 .1) in
+    let w = c .before .before .before .before .before .before .before .before .before .before .before .before .before .before .stepped .ensures ∙ (λ i. waitedOf (a .c) (a .ram .now) (a .j) (e i) (a .v) (a .delay) (getD (a .bytes .now) (a .j * 16 + 4) 0) (getD (a .bytes .now) (a .j * 16 + 8) 0) (c .before .before .before .before .before .before .before .before .before .before .before .before .before .before .before .before .before .before .before .bit .ensures i) (c .before .before .before .before .before .before .before .before .before .before .before .before .before .before .before .before .before .samples .ensures i)) in
+    (λ i. record {
+      voice = x .voice;
+      delay = x .delay;
+      out = o i;
+      acc = (c .before .added .ensures ∙ (λ k. added (c .before .before .before .before .before .bit2 .ensures k) (o k) (l k) (r k) (a .acc))) i;
+      bytes = (c .before .before .before .before .before .before .before .before .before .put-bytes .ensures ∙ (λ k. putBytes (a .j) (x .envx) (o k) (x .endx) (a .bytes .now))) i;
+    })
+    ∙ ap (ticks.landed (a .c) (a .j) (a .acc) (a .bytes .now)) (c .before .before .before .before .before .before .before .before .before .before .before .before .finished .ensures ∙ ap (cellAfter (a .c) (a .j) (a .v)) w)
 
 pub lane-spec : {M : Type 1} → statement M
 lane-spec =
     tie.close
     (tie.spec
-    mul-srcn
-    add-srcn
-    slice-read-srcn
-    mul-envx
-    add-envx
-    slice-read-envx
-    slice-read-bit
-    bit-requires
-    slice-aggregate-stepped
-    stepped-requires
+    (λ c. search needs)
+    (λ c. search needs)
+    (λ c. search needs)
+    (λ c. search needs)
+    (λ c. search needs)
+    (λ c. search needs)
+    (λ c. search needs)
+    (λ c κs. search needs)
+    (λ c κs. search needs)
+    (λ c. search needs)
+    (λ c κs. search needs)
     finished-requires
     put-bytes-requires
     bit-requires-2
-    added-requires
-    same-length
+    (λ c κs. search needs)
+    (λ c. search needs)
     returns)

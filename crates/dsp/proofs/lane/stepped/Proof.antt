@@ -1,56 +1,38 @@
+-- The callees; the poll keeps the voice fit.
 use borrow.Author.Needs.{needs}
+use mathlib.Core.Path.{_∙_, ap}
+use mir.Syntax.{w16}
+use mir.ValLaws.{toZ-ofZ}
+use Rattle.dsp.specs.Voice.{Sounding}
+use Rattle.dsp.specs.Tick.{settingsOf, sourceOf, delayOf, polledOf, waited, waitedOf}
+use Rattle.dsp.proofs.Lanes.{settings-fit, polled-fit}
 use Rattle.dsp.proofs.lane.stepped.Statement.{statement}
 use Rattle.dsp.proofs.lane.stepped.Tie as tie
-use Rattle.dsp.proofs.lane.stepped.Reads as reads
-use Rattle.dsp.proofs.lane.stepped.Lts as lts
-use Rattle.dsp.proofs.lane.delay_of.Reads as delay-of-reads
-use Rattle.dsp.proofs.lane.polled.Reads as polled-reads
-use Rattle.dsp.proofs.lane.source_of.Reads as source-of-reads
-use Rattle.dsp.proofs.mix.bit.Reads as bit-reads
-use Rattle.dsp.proofs.play.Play.waited.Reads as waited-reads
-use Rattle.dsp.proofs.voice.Voice.settings.Reads as settings-reads
 
--- src/lane.rt:358:9
-polled-requires : tie.Need-polled-requires
-polled-requires c κs = search needs
-
--- src/lane.rt:359:25
-bit-requires : tie.Need-bit-requires
-bit-requires c κs = search needs
-
--- src/lane.rt:359:9
-delay-of-requires : tie.Need-delay-of-requires
-delay-of-requires c κs = search needs
-
--- src/lane.rt:360:9
-settings-requires : tie.Need-settings-requires
-settings-requires c κs = search needs
-
--- src/lane.rt:361:9
-source-of-requires : tie.Need-source-of-requires
-source-of-requires c κs = search needs
-
--- src/lane.rt:362:5
 waited-requires : tie.Need-waited-requires
-waited-requires c κs = ?
+waited-requires c κs =
+    let s = c .before .before .before .before .before .before .before .before in
+    (s .pre .0, s .pre .1, s .pre .2, s .pre .3, rw (c .before .before .settings .ensures) (settings-fit (s .args .v) (s .pre .5)), rw (c .before .before .before .before .before .polled .ensures) (polled-fit (s .args .c) (s .args .j) (s .args .v) (s .args .endx) (s .pre .5)))
 
--- src/lane.rt:341:1
-same-length : tie.Need-same-length
-same-length c = search needs
-
--- src/lane.rt:341:1
 returns : tie.Need-returns
-returns c = ?
+unfolding waitedOf
+returns c =
+    let s = c .before .before .before .before .before .before .before .before .before .before in
+    let a = s .args in
+    let d = c .before .before .before .before .before .delay-of .ensures ∙ (λ i. delayOf (c .before .before .before .before .before .before .bit .ensures i) (a .delay)) in
+    let x = c .before .before .before .source-of .ensures ∙ ap (sourceOf (a .c .pmon) (a .j)) (toZ-ofZ w16 (a .prev) (s .fits .prev)) in
+    c .before .waited .ensures
+    ∙ (λ i. waited (a .ram .now) (a .c .dir) (a .srcn) (c .before .before .before .before .settings .ensures i) (a .v .pitch) (x i) (a .envx) (d i) (record { play = c .before .before .before .before .before .before .before .polled .ensures i; samples = a .samples .now }))
 
 pub stepped-spec : {M : Type 1} → statement M
 stepped-spec =
     tie.close
     (tie.spec
-    polled-requires
-    bit-requires
-    delay-of-requires
-    settings-requires
-    source-of-requires
+    (λ c κs. c .before .before .pre .4)
+    (λ c κs. c .before .before .before .pre .4)
+    (λ c κs. search needs)
+    (λ c κs. search needs)
+    (λ c κs. c .before .before .before .before .before .before .pre .4)
     waited-requires
-    same-length
+    (λ c. search needs)
     returns)
