@@ -6,7 +6,6 @@ use mathlib.Core.Path.{_≡_, refl}
 use Prim.Native.Nat.{ℕ, _-_, _≤_, _<_}
 use native.Mathlib.Omega.{arith}
 use lib.IntN.{ℤ}
-use lib.ListN.{length}
 use Rattle.numbers.specs.Choice.{if_then_else_, _=?_}
 use Rattle.numbers.proofs.Choice.{chosen}
 use Rattle.dsp.specs.Envelope.{FitEnvelope, FitSettings, isOff}
@@ -19,7 +18,7 @@ use Rattle.dsp.specs.declared.voice.Voice.{Voice}
 use Rattle.dsp.specs.declared.play.Source.{Source}
 use Rattle.dsp.specs.declared.play.Play.{Play}
 use Rattle.dsp.specs.declared.lane.Shared.{Shared}
-use Rattle.dsp.proofs.Plays.{FitStepped, fit-kept-step}
+use Rattle.dsp.proofs.Plays.{fit-kept-step}
 
 pub settings-fit : (v : Voice) → FitVoice v → FitSettings (settingsOf v)
 settings-fit v h = record { attack = h .adsr .attack; decay = h .adsr .decay; target = h .adsr .target; sustain = h .adsr .sustain }
@@ -53,23 +52,21 @@ polled-fit c j v endx h =
     on-fit (bit (c .kon) j) (c .«dir_base») (v .srcn) p (off-fit (bit (c .koff) j) (playOf endx v) (play-fit endx v h))
 
 pub record FitWaiting (w : Waiting) : Type 0 where
-  pub sized : length (w .samples) ≡ 16
   pub play : FitPlay (w .play)
   pub delay : w .delay ≤ 5
 
 waited-fit : (ram : List ℕ) (dir srcn : ℕ) (f : Settings) (pitch : ℕ) (x : Source) (envx delay : ℕ) (s : Sounding) → FitSettings f
-    → length (s .samples) ≡ 16 → FitPlay (s .play) → delay ≤ 5 → FitWaiting (waited ram dir srcn f pitch x envx delay s)
+    → FitPlay (s .play) → delay ≤ 5 → FitWaiting (waited ram dir srcn f pitch x envx delay s)
 unfolding waited
-waited-fit ram dir srcn f pitch x envx delay s g l h d =
-    let t = fit-kept-step ram dir srcn f pitch x envx s g l h in
-    chosen FitWaiting (delay =? 0) (record { sized = t .sized; play = t .play; delay = omega arith }) (record { sized = l; play = h; delay = omega arith })
+waited-fit ram dir srcn f pitch x envx delay s g h d =
+    chosen FitWaiting (delay =? 0) (record { play = fit-kept-step ram dir srcn f pitch x envx s g h; delay = omega arith }) (record { play = h; delay = omega arith })
 
 pub fit-kept-waited : (c : Shared) (ram : List ℕ) (j : ℕ) (prev : ℤ) (v : Voice) (delay srcn envx : ℕ) (endx : Bool) (samples : List ℤ)
-    → length samples ≡ 16 → FitVoice v → delay ≤ 5 → FitWaiting (waitedOf c ram j prev v delay srcn envx endx samples)
+    → FitVoice v → delay ≤ 5 → FitWaiting (waitedOf c ram j prev v delay srcn envx endx samples)
 unfolding waitedOf
-fit-kept-waited c ram j prev v delay srcn envx endx samples l h d =
+fit-kept-waited c ram j prev v delay srcn envx endx samples h d =
     waited-fit ram (c .dir) srcn (settingsOf v) (v .pitch) (sourceOf (c .pmon) j prev) envx (delayOf (bit (c .kon) j) delay)
-    (record { play = polledOf c j v endx; samples = samples }) (settings-fit v h) l (polled-fit c j v endx h)
+    (record { play = polledOf c j v endx; samples = samples }) (settings-fit v h) (polled-fit c j v endx h)
     (chosen (λ (n : ℕ). n ≤ 5) (bit (c .kon) j) (omega arith) d)
 
 pub record FitCell (x : Cell) : Type 0 where
@@ -100,8 +97,8 @@ after-fit c j v w h k =
 
 -- what a lane makes of a fit voice
 pub fit-kept-cell : (c : Shared) (ram : List ℕ) (j : ℕ) (prev : ℤ) (v : Voice) (delay srcn envx : ℕ) (endx : Bool)
-    → length (v .brr .«sample_buffer») ≡ 16 → FitVoice v → delay ≤ 5 → FitCell (cellOf c ram j prev v delay srcn envx endx)
+    → FitVoice v → delay ≤ 5 → FitCell (cellOf c ram j prev v delay srcn envx endx)
 unfolding cellOf
-fit-kept-cell c ram j prev v delay srcn envx endx l h d =
+fit-kept-cell c ram j prev v delay srcn envx endx h d =
     after-fit c j v (waitedOf c ram j prev v delay srcn envx endx (v .brr .«sample_buffer»)) h
-    (fit-kept-waited c ram j prev v delay srcn envx endx (v .brr .«sample_buffer») l h d)
+    (fit-kept-waited c ram j prev v delay srcn envx endx (v .brr .«sample_buffer») h d)

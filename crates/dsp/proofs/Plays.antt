@@ -38,15 +38,27 @@ module _ (ram : List ℕ) (dir srcn : ℕ) where
   goes-on zero s t l e h = absurd (omega arith)
   goes-on (suc n) s t l e h = let z : suc n - 1 ≡ n = omega arith in rw (← e, h, z)
 
--- ---- the block that is played: 16 samples, an index below 16, a fill of 0 or 16
+-- ---- the block that is played: 16 samples
 
-pub record Ready (s : Sounding) : Type 0 where
-  pub sized : length (s .samples) ≡ 16
-  pub block : FitBlock (s .play)
+abbrev Sized : Sounding → Type 0
+Sized s = length (s .samples) ≡ 16
 
-decoded-sized : (ram : List ℕ) (a : ℕ) (p1 p2 : ℤ) → length (decodeBlock ram a p1 p2 .samples) ≡ 16
-unfolding decodeBlock
-decoded-sized ram a p1 p2 = refl
+decoded-sized : (ram : List ℕ) (a : ℕ) (s : Sounding) → length (decodedAt ram a s .samples) ≡ 16
+unfolding decodedAt decodeBlock
+decoded-sized ram a s = refl
+
+pub taken-sized : (ram : List ℕ) (dir srcn : ℕ) (s : Sounding) → length (s .samples) ≡ 16 → length (takeOne ram dir srcn s .samples) ≡ 16
+unfolding takeOne nextBlock
+taken-sized ram dir srcn s h = chosen Sized (lastOf s) (decoded-sized ram (nextAddress ram dir srcn (heardNext s .play)) (heardNext s)) h
+
+pub resolved-sized : (ram : List ℕ) (s : Sounding) → length (s .samples) ≡ 16 → length (resolved ram s .samples) ≡ 16
+unfolding resolved
+resolved-sized ram s h = chosen Sized (s .play .«buffer_fill» =? 0) (decoded-sized ram (wordAt ram (s .play .addr)) s) h
+
+-- ---- its index is below 16 and its fill 0 or 16
+
+abbrev Ready : Sounding → Type 0
+Ready s = FitBlock (s .play)
 
 filled-block : (a : ℕ) (p1 p2 : ℤ) (end : Bool) (p : Play) → FitBlock (filled a p1 p2 end p)
 unfolding filled
@@ -58,22 +70,22 @@ placed-block a p1 p2 end loops p =
     let h = filled-block a p1 p2 end p in
     chosen FitBlock (end && not loops) (record { nibble = h .nibble; fill = h .fill }) h
 
-pub decoded-ready : (ram : List ℕ) (a : ℕ) (s : Sounding) → Ready (decodedAt ram a s)
+decoded-ready : (ram : List ℕ) (a : ℕ) (s : Sounding) → FitBlock (decodedAt ram a s .play)
 unfolding decodedAt
 decoded-ready ram a s =
     let d = decodeBlock ram a (s .play .prev1) (s .play .prev2) in
-    record { sized = decoded-sized ram a (s .play .prev1) (s .play .prev2); block = placed-block a (d .prev1) (d .prev2) (d .end) (d .loops) (s .play) }
+    placed-block a (d .prev1) (d .prev2) (d .end) (d .loops) (s .play)
 
-pub taken-ready : (ram : List ℕ) (dir srcn : ℕ) (s : Sounding) → Ready s → Ready (takeOne ram dir srcn s)
+pub taken-ready : (ram : List ℕ) (dir srcn : ℕ) (s : Sounding) → FitBlock (s .play) → FitBlock (takeOne ram dir srcn s .play)
 unfolding takeOne nextBlock heard
 taken-ready ram dir srcn s h =
-    let n = h .block .nibble in
+    let n = h .nibble in
     elim (decLt (s .play .«nibble_idx») 15) [
-      | yes l ↦ rw (ne-eqb _ _ (λ (e : s .play .«nibble_idx» ≡ 15). omega arith)) (record { sized = h .sized; block = record { nibble = omega arith; fill = h .block .fill } })
+      | yes l ↦ rw (ne-eqb _ _ (λ (e : s .play .«nibble_idx» ≡ 15). omega arith)) (record { nibble = omega arith; fill = h .fill })
       | no l ↦ let e : s .play .«nibble_idx» ≡ 15 = omega arith in rw (eq-eqb _ _ e) (decoded-ready ram (nextAddress ram dir srcn (heardNext s .play)) (heardNext s))
     ]
 
-pub consumed-ready : (ram : List ℕ) (dir srcn n : ℕ) (s : Sounding) → Ready s → Ready (consume ram dir srcn n s)
+consumed-ready : (ram : List ℕ) (dir srcn n : ℕ) (s : Sounding) → FitBlock (s .play) → FitBlock (consume ram dir srcn n s .play)
 unfolding consume
 consumed-ready ram dir srcn zero s h = h
 consumed-ready ram dir srcn (suc n) s h =
@@ -81,7 +93,7 @@ consumed-ready ram dir srcn (suc n) s h =
     let t = takeOne ram dir srcn s in
     chosen Ready (lastOf s && not (t .play .«key_on»)) k (consumed-ready ram dir srcn n t k)
 
-pub resolved-ready : (ram : List ℕ) (s : Sounding) → Ready s → Ready (resolved ram s)
+pub resolved-ready : (ram : List ℕ) (s : Sounding) → FitBlock (s .play) → FitBlock (resolved ram s .play)
 unfolding resolved
 resolved-ready ram s h = chosen Ready (s .play .«buffer_fill» =? 0) (decoded-ready ram (wordAt ram (s .play .addr)) s) h
 
@@ -138,11 +150,11 @@ pub seven : (p : Play) (pitch : ℕ) (x : Source) → samplesTaken p pitch x ≤
 unfolding samplesTaken
 seven p pitch x = omega (arith, position-le p pitch x)
 
-pub advanced-ready : (ram : List ℕ) (dir srcn pitch : ℕ) (x : Source) (s : Sounding) → Ready s → Ready (advanced ram dir srcn pitch x s)
+pub advanced-ready : (ram : List ℕ) (dir srcn pitch : ℕ) (x : Source) (s : Sounding) → FitBlock (s .play) → FitBlock (advanced ram dir srcn pitch x s .play)
 unfolding advanced
 advanced-ready ram dir srcn pitch x s h =
     let q : Sounding = record { play = withPosition (s .play) (positionOf (s .play) pitch x); samples = s .samples } in
-    consumed-ready ram dir srcn (samplesTaken (s .play) pitch x) q (record { sized = h .sized; block = record { nibble = h .block .nibble; fill = h .block .fill } })
+    consumed-ready ram dir srcn (samplesTaken (s .play) pitch x) q (record { nibble = h .nibble; fill = h .fill })
 
 pub advanced-apt : (ram : List ℕ) (dir srcn pitch : ℕ) (x : Source) (s : Sounding) → Apt (s .play) → Apt (advanced ram dir srcn pitch x s .play)
 unfolding advanced
@@ -162,44 +174,34 @@ module _ (ram : List ℕ) (dir srcn pitch : ℕ) (x : Source) (envx : ℕ) where
   plays s h = rw h
 
 -- after the envelope
-pub enveloped-ready : (f : Settings) (s : Sounding) → Ready s → Ready (record { play = withEnvelope (s .play) (envelopeTick f (s .play .envelope)); samples = s .samples })
-enveloped-ready f s h = record { sized = h .sized; block = record { nibble = h .block .nibble; fill = h .block .fill } }
-
 pub enveloped-apt : (f : Settings) (p : Play) → FitSettings f → Apt p → Apt (withEnvelope p (envelopeTick f (p .envelope)))
 enveloped-apt f p g h = record { envelope = fit-kept-envelope f (p .envelope) g (h .envelope); position = h .position }
 
--- what a fit voice has, in the two halves that are kept apart
-pub fit-ready : (s : Sounding) → length (s .samples) ≡ 16 → FitPlay (s .play) → Ready s
-fit-ready s l h = record { sized = l; block = h .block }
-
 pub fit-apt : (p : Play) → FitPlay p → Apt p
 fit-apt p h = record { envelope = h .envelope; position = h .position }
-
-shown-ready : (s : Sounding) → Ready s → Ready (record { play = interpolated (s .play); samples = s .samples })
-unfolding interpolated
-shown-ready s h = record { sized = h .sized; block = record { nibble = h .block .nibble; fill = h .block .fill } }
 
 pub shown-apt : (p : Play) → Apt p → Apt (interpolated p)
 unfolding interpolated
 shown-apt p h = record { envelope = h .envelope; position = h .position }
 
-pub record FitStepped (t : Stepped) : Type 0 where
-  pub sized : length (t .samples) ≡ 16
-  pub play : FitPlay (t .play)
+shown-ready : (p : Play) → FitBlock p → FitBlock (interpolated p)
+unfolding interpolated
+shown-ready p h = record { nibble = h .nibble; fill = h .fill }
 
-sounded-fit : (ram : List ℕ) (dir srcn pitch : ℕ) (x : Source) (envx : ℕ) (s : Sounding) → Ready s → Apt (s .play) → FitStepped (sounded ram dir srcn pitch x envx s)
+sounded-fit : (ram : List ℕ) (dir srcn pitch : ℕ) (x : Source) (envx : ℕ) (s : Sounding) → FitBlock (s .play) → Apt (s .play)
+    → FitPlay (sounded ram dir srcn pitch x envx s .play)
 unfolding sounded
 sounded-fit ram dir srcn pitch x envx s r a =
     let t = advanced ram dir srcn pitch x (resolved ram s) in
-    let u = shown-ready t (advanced-ready ram dir srcn pitch x (resolved ram s) (resolved-ready ram s r)) in
+    let u = shown-ready (t .play) (advanced-ready ram dir srcn pitch x (resolved ram s) (resolved-ready ram s r)) in
     let b = shown-apt (t .play) (advanced-apt ram dir srcn pitch x (resolved ram s) (resolved-apt ram s a)) in
-    chosen FitStepped (idle (s .play))
-    (record { sized = r .sized; play = record { envelope = a .envelope; position = a .position; block = r .block } })
-    (record { sized = u .sized; play = record { envelope = b .envelope; position = b .position; block = u .block } })
+    chosen (λ (t : Stepped). FitPlay (t .play)) (idle (s .play))
+    (record { envelope = a .envelope; position = a .position; block = r })
+    (record { envelope = b .envelope; position = b .position; block = u })
 
 pub fit-kept-step : (ram : List ℕ) (dir srcn : ℕ) (f : Settings) (pitch : ℕ) (x : Source) (envx : ℕ) (s : Sounding) → FitSettings f
-    → length (s .samples) ≡ 16 → FitPlay (s .play) → FitStepped (voiceStep ram dir srcn f pitch x envx s)
+    → FitPlay (s .play) → FitPlay (voiceStep ram dir srcn f pitch x envx s .play)
 unfolding voiceStep
-fit-kept-step ram dir srcn f pitch x envx s g l h =
+fit-kept-step ram dir srcn f pitch x envx s g h =
     let e : Sounding = record { play = withEnvelope (s .play) (envelopeTick f (s .play .envelope)); samples = s .samples } in
-    sounded-fit ram dir srcn pitch x envx e (enveloped-ready f s (fit-ready s l h)) (enveloped-apt f (s .play) g (fit-apt (s .play) h))
+    sounded-fit ram dir srcn pitch x envx e (record { nibble = h .block .nibble; fill = h .block .fill }) (enveloped-apt f (s .play) g (fit-apt (s .play) h))

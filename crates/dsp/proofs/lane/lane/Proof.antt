@@ -2,7 +2,7 @@
 use borrow.Author.Needs.{needs}
 use mathlib.Core.Path.{_≡_, _∙_, sym, ap, subst}
 use Prim.Native.Nat.{_+_, _*_, _≤_}
-use lib.ListN.{length, getD}
+use lib.ListN.{getD}
 use mir.Syntax.{w8, w16}
 use Rattle.numbers.proofs.Range.{landed}
 use Rattle.dsp.specs.Tick.{Waiting, waitedOf, Cell, cellAfter, cellOf, added, putBytes, Landed, turned}
@@ -11,15 +11,12 @@ use Rattle.dsp.proofs.Lanes.{fit-kept-waited}
 use Rattle.dsp.proofs.lane.lane.Statement.{statement}
 use Rattle.dsp.proofs.lane.lane.Tie as tie
 
-sized : (c : tie.After-samples) → length (c .samples .result) ≡ 16
-sized c = search needs
-
 -- the level after the step
 low : (c : tie.After-stepped) → c .stepped .result .play .envelope .level ≤ 0x800
 low c =
     let s = c .before .before .before .before .before .before .before .before .before .before .before .before in
     subst (λ (w : Waiting). w .play .envelope .level ≤ 0x800) (sym (c .stepped .ensures))
-    (fit-kept-waited _ _ _ _ _ _ _ _ _ _ (sized (c .before .before .before)) (s .pre .5) (s .pre .6) .play .envelope .level)
+    (fit-kept-waited _ _ _ _ _ _ _ _ _ _ (s .pre .5) (s .pre .6) .play .envelope .level)
 
 finished-requires : tie.Need-finished-requires
 finished-requires c κs =

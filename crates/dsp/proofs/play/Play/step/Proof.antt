@@ -4,20 +4,21 @@ use mathlib.Core.Path.{_≡_, _∙_, sym, ap, subst}
 use native.Mathlib.Omega.{arith}
 use Prim.Native.Nat.{_/_, _≤_}
 use lib.ListN.{length}
-use Rattle.dsp.specs.Voice.{Sounding, Stepped, FitPlay, withEnvelope, resolved, advanced, interpolated, shown, sounded, voiceStep}
+use Rattle.dsp.specs.Voice.{Sounding, Stepped, FitPlay, FitBlock, withEnvelope, resolved, advanced, interpolated, shown, sounded, voiceStep}
 use Rattle.dsp.specs.Envelope.{envelopeTick}
 use Rattle.dsp.specs.declared.adsr.Envelope.{Envelope}
-use Rattle.dsp.proofs.Plays.{Ready, Apt, rests, plays, enveloped-ready, enveloped-apt, fit-ready, fit-apt, resolved-ready, resolved-apt, advanced-apt, shown-apt}
+use Rattle.dsp.proofs.Plays.{Apt, rests, plays, enveloped-apt, fit-apt, resolved-sized, resolved-ready, resolved-apt, advanced-apt, shown-apt}
 use Rattle.dsp.proofs.play.Play.step.Statement.{statement}
 use Rattle.dsp.proofs.play.Play.step.Tie as tie
 
 -- the block after the resolve
-after-resolve : (c : tie.After-resolved) → Ready (c .resolved .ensures 0)
+after-resolve : (c : tie.After-resolved) → (length ((c .resolved .ensures 0) .samples) ≡ 16) × FitBlock ((c .resolved .ensures 0) .play)
 after-resolve c =
-    let s = c .before .before .before .before .before .before .before .before in
-    let q : Sounding = record { play = s .args .self; samples = s .args .samples .now } in
-    rw (c .resolved .ensures, c .before .before .before .before .update-envelope .ensures)
-    (resolved-ready _ _ (enveloped-ready (s .args .s) q (fit-ready q (s .pre .3) (s .pre .5))))
+    let h = c .before .before .before .before .before .before .before .before .pre .5 .block in
+    let e = sym (c .resolved .ensures) in (
+      subst (λ (s : Sounding). length (s .samples) ≡ 16) e (resolved-sized _ _ (c .before .before .before .before .before .before .before .before .pre .3)),
+      subst (λ (s : Sounding). FitBlock (s .play)) e (resolved-ready _ _ (record { nibble = h .nibble; fill = h .fill })),
+    )
 
 after-advance : (c : tie.After-advanced) → Apt ((c .advanced .ensures 0) .play)
 after-advance c =
@@ -51,7 +52,7 @@ resolved-requires c κs =
 
 advanced-requires : tie.Need-advanced-requires
 advanced-requires c κs =
-    let r = after-resolve (c .before .before) in (c .before .before .before .before .before .before .before .before .before .before .pre .2, r .sized, r .block)
+    let r = after-resolve (c .before .before) in (c .before .before .before .before .before .before .before .before .before .before .pre .2, r .0, r .1)
 
 interpolated-requires : tie.Need-interpolated-requires
 interpolated-requires c κs =
