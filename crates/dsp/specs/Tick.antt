@@ -5,13 +5,14 @@ use mathlib.Core.Path.{_≡_}
 use Prim.Native.Nat.{ℕ, zero, suc, _+_, _-_, _*_, _^_}
 use lib.Bits.{bitAnd, bitOr}
 use lib.IntN.{ℤ, pos}
-use lib.ListN.{getD, set, replicate}
-use Rattle.numbers.specs.Choice.{if_then_else_, _=?_, _≤?_}
+use lib.ListN.{getD, set, replicate, length}
+use Rattle.numbers.specs.Choice.{if_then_else_, _=?_, _<?_}
 use Rattle.numbers.specs.Signed.{highZ}
 use Rattle.numbers.specs.Unsigned.{wrapped}
 use Rattle.sound.specs.Sound.{even}
 use Rattle.dsp.specs.Envelope.{isOff}
 use Rattle.dsp.specs.Machine.{noVoice, Parts, apart, together}
+use Rattle.dsp.specs.Fit.{fit}
 use Rattle.dsp.specs.Registers.{turns}
 use Rattle.dsp.specs.Noise.{noiseTick, noiseSample}
 use Rattle.dsp.specs.Voice.{Sounding, Stepped, entryOf, withSample, voiceStep}
@@ -23,6 +24,7 @@ use Rattle.dsp.specs.declared.voice.Voice.{Voice}
 use Rattle.dsp.specs.declared.play.Source.{Source}
 use Rattle.dsp.specs.declared.play.Source.the-variants.{Unmodulated, From}
 use Rattle.dsp.specs.declared.play.Play.{Play}
+use Rattle.dsp.specs.declared.noise.Noise.{Noise}
 use Rattle.dsp.specs.declared.lane.Shared.{Shared}
 use Rattle.dsp.specs.declared.lane.Acc.{Acc}
 use Rattle.dsp.specs.declared.registers.Dsp.{Dsp}
@@ -302,19 +304,23 @@ globTick g =
       «echo_out_r» = g .«echo_out_r»;
     }
 
--- a poll's KOFF and a loop jump's DIR are the bytes; KON is held back while FLG bit 7 is set
-unfoldable pub sharedOf : Glob → List ℕ → Shared
-sharedOf g bytes =
+-- KON is held back while FLG bit 7 is set
+unfoldable pub sharedFrom : Glob → Noise → ℕ → ℕ → Shared
+sharedFrom g noise koff dir =
     record {
-      koff = if polls g then getD bytes 0x5C 0 else 0;
-      kon = if polls g && not (0x80 ≤? g .flg) then g .«new_kon» else 0;
+      koff = if polls g then koff else 0;
+      kon = if polls g && (g .flg <? 0x80) then g .«new_kon» else 0;
       «dir_base» = g .«dir_base»;
-      dir = getD bytes 0x5D 0;
+      dir = dir;
       non = g .non;
       pmon = g .pmon;
       eon = g .eon;
-      noise = noiseSample (noiseTick (g .flg) (g .noise));
+      noise = noiseSample noise;
     }
+
+-- a poll's KOFF and a loop jump's DIR are the bytes
+abbrev pub sharedOf : Glob → List ℕ → Shared
+sharedOf g bytes = sharedFrom g (noiseTick (g .flg) (g .noise)) (getD bytes 0x5C 0) (getD bytes 0x5D 0)
 
 pub record Bench : Type 0 where
   pub parts : Parts
@@ -339,13 +345,36 @@ echoed taps r e =
       ram = e .ram;
     }
 
+-- the echo takes what the voices summed
+abbrev pub echoedFrom : Bench → Round → Bench
+echoedFrom b r =
+    echoed (b .parts .taps) r
+    (echoTick (globTick (b .parts .glob)) (b .parts .taps) (b .parts .left) (b .parts .right) (b .ram) (r .acc .input))
+
 unfoldable pub tickOf : Bench → Bench
-tickOf b =
-    let p = b .parts in
-    let r = voicesTick (sharedOf (p .glob) (p .registers)) (b .ram) (startOf p) in
-    echoed (p .taps) r (echoTick (globTick (p .glob)) (p .taps) (p .left) (p .right) (b .ram) (r .acc .input))
+tickOf b = echoedFrom b (voicesTick (sharedOf (b .parts .glob) (b .parts .registers)) (b .ram) (startOf (b .parts)))
 
 -- n ticks
 unfoldable pub ticksOf : ℕ → Bench → Bench
 ticksOf zero b = b
 ticksOf (suc n) b = tickOf (ticksOf n b)
+
+-- ---- the public step
+
+pub record After : Type 0 where
+  pub refusal : ℕ
+  pub dsp : Dsp
+  pub ram : List ℕ
+
+abbrev pub ticked : Bench → After
+ticked b = record { refusal = 0; dsp = together (b .parts); ram = b .ram }
+
+abbrev pub refused : ℕ → Dsp → List ℕ → After
+refused n d ram = record { refusal = n; dsp = d; ram = ram }
+
+-- 1: the RAM slice isn't 65,536 bytes; 2: the record is unfit
+unfoldable pub stepOf : Dsp → List ℕ → After
+stepOf d ram =
+    if length ram =? 0x10000 then
+    (if fit d then ticked (tickOf (record { parts = apart d; ram = ram })) else refused 2 d ram)
+    else refused 1 d ram

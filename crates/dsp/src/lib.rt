@@ -8,6 +8,7 @@ mod mix;
 mod noise;
 mod play;
 mod registers;
+mod tick;
 mod voice;
 
 pub use adsr::Adsr;
