@@ -11,7 +11,7 @@ use borrow.Author.Count.{below-more}
 use Rattle.replay.specs.Leaves.{sizeOf, checkOf}
 use Rattle.replay.specs.Parts.{handedTo, checkAt, IsFront}
 use Rattle.replay.specs.declared.leaves.Leaf.{Leaf}
-use Rattle.replay.specs.declared.leaves.Checked.{Checked}
+use Rattle.replay.specs.declared.records.Checked.{Checked}
 
 pub added : (a n : ℕ) → a + n - a ≡ n
 added a n = omega arith

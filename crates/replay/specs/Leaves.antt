@@ -6,7 +6,7 @@ use Rattle.dsp.specs.Brr.{decodeNibble}
 use Rattle.replay.specs.Records.{byteAt, i8At, i16At, _=ℤ?_}
 use Rattle.replay.specs.declared.leaves.Leaf.{Leaf}
 use Rattle.replay.specs.declared.leaves.Leaf.the-variants.{Nibble}
-use Rattle.replay.specs.declared.leaves.Checked.{Checked}
+use Rattle.replay.specs.declared.records.Checked.{Checked}
 
 abbrev pub sizeOf : Leaf → ℕ
 sizeOf Nibble = 9

@@ -1,12 +1,12 @@
 -- The records of a part of a file, and how far they are equal.
-use mathlib.Core.Bool.{Bool, true, false}
+use mathlib.Core.Bool.{true, false}
 use mathlib.Core.List.{List}
 use mathlib.Core.Path.{_≡_}
 use Prim.Native.Nat.{ℕ, zero, suc, _*_, _/_, _≤_, _<_}
 use lib.ListN.{length, take, drop}
 use Rattle.replay.specs.Leaves.{sizeOf, checkOf}
 use Rattle.replay.specs.declared.leaves.Leaf.{Leaf}
-use Rattle.replay.specs.declared.leaves.Checked.{Checked}
+use Rattle.replay.specs.declared.records.Checked.{Checked}
 use Rattle.replay.specs.declared.parts.Front.{Front}
 
 abbrev pub recordAt : Leaf → List ℕ → ℕ → List ℕ

@@ -3,6 +3,7 @@ ghost use mathlib.Core.Path.{_≡_};
 ghost use Prim.Native.Nat.{_≤_, _<_};
 ghost use lib.ListN.{length};
 ghost use Rattle.replay.specs.Leaves.{sizeOf, startOf, nibbleEqual, checkOf};
+use crate::records::Checked;
 use crate::records::byte_at;
 use crate::records::i8_at;
 use crate::records::i16_at;
@@ -10,13 +11,6 @@ use crate::records::is_i16_at;
 
 pub enum Leaf {
     Nibble,
-}
-
-// Whether a record is equal, and what it hands on to the next one. No leaf here has a state, but the loop over a
-// file serves leaves that have.
-pub struct Checked {
-    pub equal: bool,
-    pub carry: u32,
 }
 
 pub fn size(leaf: Leaf) -> usize

@@ -1,8 +1,14 @@
-// Numbers out of a record: 16 bits stand low byte first.
+// Numbers out of a record, 16 bits low byte first, and what checking one gives.
 ghost use mathlib.Core.Path.{_≡_};
 ghost use Prim.Native.Nat.{_+_, _<_};
 ghost use lib.ListN.{length};
 ghost use Rattle.replay.specs.Records.{byteAt, u16At, i8At, i16At, _=ℤ?_};
+
+// Whether a record is equal, and what it hands on to the next one of its file: a leaf may have a state.
+pub struct Checked {
+    pub equal: bool,
+    pub carry: u32,
+}
 
 pub fn byte_at(bytes: &[u8], i: usize) -> u8
     requires { ⌜ i < length (now bytes) ⌝ }

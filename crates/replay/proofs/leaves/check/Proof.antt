@@ -6,7 +6,7 @@ use Prim.Native.Nat.{ℕ}
 use Rattle.replay.specs.Leaves.{checkOf, nibbleEqual}
 use Rattle.replay.specs.declared.leaves.Leaf.{Leaf}
 use Rattle.replay.specs.declared.leaves.Leaf.the-variants.{Nibble}
-use Rattle.replay.specs.declared.leaves.Checked.{Checked}
+use Rattle.replay.specs.declared.records.Checked.{Checked}
 use Rattle.replay.proofs.Sizes.{nine}
 use Rattle.replay.proofs.leaves.check.Statement.{statement}
 use Rattle.replay.proofs.leaves.check.Tie as tie
