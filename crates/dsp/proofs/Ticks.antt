@@ -63,7 +63,7 @@ fit-kept-turns c ram n r l h = turns-keep RoundFit (turn c ram) 8 (λ j s m k. f
 
 -- ---- the machine
 
-glob-kept : (g : Glob) → FitGlob g → FitGlob (globTick g)
+pub glob-kept : (g : Glob) → FitGlob g → FitGlob (globTick g)
 unfolding globTick
 glob-kept g h =
     let n = fit-kept-noise (g .flg) (g .noise) (record { lfsr = h .lfsr; counter = h .counter }) in
