@@ -59,14 +59,15 @@ delays-sized c = search needs
 loop-holds : tie.Need-loop-holds Inv-loop2 μ-loop2 Inv-loop μ-loop
 unfolding ticksOf
 loop-holds c =
-    let h = c .before .before .before .before .before .before .before .before .before .before .pre .1 in
-    (search needs,
-    record {
-    ram = c .before .before .before .before .before .before .before .before .before .before .pre .0;
-    round = record { bytes = bytes-sized (c .before .before .before .before .before); count = lanes-sized (c .before .before .before .before); waits = delays-sized (c .before .before .before); voices = rw (c .before .before .before .before .lanes .ensures) (h .voices); delays = rw (c .before .before .before .delays .ensures) (h .delays) };
-    glob = rw (c .glob .ensures) (h .glob);
-    },
-    refl)
+    let h = c .before .before .before .before .before .before .before .before .before .before .pre .1 in (
+      search needs,
+      record {
+        ram = c .before .before .before .before .before .before .before .before .before .before .pre .0;
+        round = record { bytes = bytes-sized (c .before .before .before .before .before); count = lanes-sized (c .before .before .before .before); waits = delays-sized (c .before .before .before); voices = rw (c .before .before .before .before .lanes .ensures) (h .voices); delays = rw (c .before .before .before .delays .ensures) (h .delays) };
+        glob = rw (c .glob .ensures) (h .glob);
+      },
+      refl,
+    )
 
 ticked-requires : tie.Need-ticked-requires Inv-loop2 μ-loop2 Inv-loop μ-loop
 ticked-requires c κs =

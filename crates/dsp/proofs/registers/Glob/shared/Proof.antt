@@ -12,14 +12,14 @@ unfolding sharedFrom
 returns c =
     let a = c .before .before .before .args in
     λ i. record {
-    koff = c .before .before .polled-koff .ensures i;
-    kon = c .before .polled-kon .ensures i;
-    «dir_base» = a .self .«dir_base»;
-    dir = a .dir;
-    non = a .self .non;
-    pmon = a .self .pmon;
-    eon = a .self .eon;
-    noise = (landed w16 (c .sample .ok) ∙ c .sample .ensures) i;
+      koff = c .before .before .polled-koff .ensures i;
+      kon = c .before .polled-kon .ensures i;
+      «dir_base» = a .self .«dir_base»;
+      dir = a .dir;
+      non = a .self .non;
+      pmon = a .self .pmon;
+      eon = a .self .eon;
+      noise = (landed w16 (c .sample .ok) ∙ c .sample .ensures) i;
     }
 
 pub shared-spec : {M : Type 1} → statement M
