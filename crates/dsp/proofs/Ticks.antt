@@ -111,3 +111,11 @@ fit-kept-bench b h =
       round = record { bytes = r .bytes; count = r .count; waits = r .waits; voices = r .voices; delays = r .delays };
       glob = fit-kept-echo _ _ _ (glob-kept (b .parts .glob) (h .glob));
     }
+
+-- a tick of a fit record leaves a fit one; the arrays of a record of the language have these lengths
+pub fit-kept-tick : (d : Dsp) (ram : List ℕ) → length ram ≡ 0x10000 → length (d .registers) ≡ 128 → length (d .voices) ≡ 8 → length (d .«kon_delay») ≡ 8 → Fit d
+    → Fit (together (tickOf (record { parts = apart d; ram = ram }) .parts))
+fit-kept-tick d ram lr lb lv ld h =
+    let b : Bench = record { parts = apart d; ram = ram } in
+    let k = fit-kept-bench b (record { ram = lr; round = record { bytes = lb; count = lv; waits = ld; voices = h .voices; delays = h .delays }; glob = h .glob }) in
+    record { glob = k .glob; voices = k .round .voices; delays = k .round .delays }
