@@ -1,29 +1,25 @@
 -- A tick of the machine: what it keeps, and how its parts make the definition.
-use mathlib.Core.Bool.{Bool, not, _&&_}
+use mathlib.Core.Bool.{Bool}
 use mathlib.Core.List.{List}
-use mathlib.Core.Path.{_≡_, refl, sym, ap, _∙_, subst}
-use Prim.Native.Nat.{ℕ, zero, suc, _+_, _*_, _≤_, _<_}
+use mathlib.Core.Path.{_≡_, refl, _∙_}
+use Prim.Native.Nat.{ℕ, _+_, _*_, _≤_, _<_}
 use native.Mathlib.Omega.{arith}
 use lib.IntN.{ℤ}
 use lib.ListN.{getD, set, length, length-set}
-use Rattle.numbers.specs.Choice.{if_then_else_}
 use Rattle.numbers.proofs.Choice.{chosen}
-use Rattle.dsp.specs.Machine.{noVoice, Parts, apart, together}
+use Rattle.dsp.specs.Machine.{noVoice, apart, together}
 use Rattle.dsp.specs.Fit.{FitVoice, FitGlob, Fit}
 use Rattle.dsp.specs.Registers.{turns}
 use Rattle.dsp.specs.Mix.{bit}
-use Rattle.dsp.specs.Echo.{Echo, echoTick, echoWritten, echoStored, echoNow}
-use Rattle.dsp.specs.Tick.{Cell, cellOf, putBytes, newAcc, Landed, turned, Round, turn, voicesTick, polls, globTick, sharedFrom, sharedOf, Bench, startOf, echoed, tickOf}
-use Rattle.dsp.specs.declared.voice.Voice.{Voice}
-use Rattle.dsp.specs.declared.mix.Stereo.{Stereo}
+use Rattle.dsp.specs.Echo.{Echo, echoTick, echoWritten, echoStored}
+use Rattle.dsp.specs.Tick.{cellOf, putBytes, turned, Round, turn, voicesTick, globTick, sharedFrom, sharedOf, Bench, startOf, echoed, tickOf}
 use Rattle.dsp.specs.declared.lane.Shared.{Shared}
-use Rattle.dsp.specs.declared.lane.Acc.{Acc}
 use Rattle.dsp.specs.declared.registers.Dsp.{Dsp}
 use Rattle.dsp.specs.declared.registers.Glob.{Glob}
 use Rattle.dsp.proofs.Turns.{turns-keep, set-keeps}
 use Rattle.dsp.proofs.Envelopes.{fit-kept-noise}
 use Rattle.dsp.proofs.Echoes.{fit-kept-echo}
-use Rattle.dsp.proofs.Lanes.{FitCell, fit-kept-cell}
+use Rattle.dsp.proofs.Lanes.{fit-kept-cell}
 
 -- ---- the voices
 
