@@ -1,8 +1,10 @@
 // The file of cases: the number of a RAM image, the log's length (16 bits, low byte first), the log; and so on.
+ghost use Prim.Native.Nat.{_≤_, _<_};
+ghost use lib.ListN.{length};
 use crate::lines::numbered;
 use crate::lines::say;
 use crate::log::refusal_of;
-use crate::run::run;
+use crate::run::run_log;
 
 // A file may have no end, as a device has none: no more cases than these are read.
 const CASES_MOST: u64 = 1000;
@@ -40,7 +42,9 @@ fn word(low: u8, high: u8) -> u16 {
     low as u16 + 256 * (high as u16)
 }
 
-fn with_log(fd: i32, number: u64, image: u8, length: u16) -> bool {
+fn with_log(fd: i32, number: u64, image: u8, length: u16) -> bool
+    requires { ⌜ image < 10 ⌝ }
+{
     let mut log = io::large_buffer();
     let n = length as usize;
     let got = io::read_full(fd, &mut log[..n]);
@@ -58,12 +62,15 @@ fn stops() -> bool {
 }
 
 // RAM is checked before the log, and the whole log before the first tick.
-fn case(image: u8, log: &[u8]) {
+fn case(image: u8, log: &[u8])
+    requires { ⌜ (image < 10) × (length (now log) ≤ 0x10000) ⌝ }
+{
     let mut ram = io::large_buffer();
     if load(image, &mut ram) {
         let refusal = refusal_of(log);
         if refusal == 0 {
-            run(log, &mut ram);
+            let r = run_log(log, &mut ram);
+            r.tell(&ram);
         } else {
             numbered(b"REFUSED ", refusal as u64);
         }
@@ -73,7 +80,9 @@ fn case(image: u8, log: &[u8]) {
 }
 
 // Whether the image is there and as long as RAM.
-fn load(image: u8, ram: &mut [u8]) -> bool {
+fn load(image: u8, ram: &mut [u8]) -> bool
+    requires { ⌜ image < 10 ⌝ }
+{
     let name = [b'r', b'a', b'm', b'0' + image];
     let fd = os::open_read(&name);
     if fd < 0 {

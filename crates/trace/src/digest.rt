@@ -1,18 +1,25 @@
 // FNV-1a, 64 bits: of bytes, of samples, of RAM, of all registers.
+ghost use mathlib.Core.Path.{_≡_};
+ghost use Prim.Native.Nat.{_*_, _%_, _^_};
+ghost use Rattle.trace.specs.Digest.{fnv};
 use dsp::Dsp;
 use dsp::Sample;
 
 pub const EMPTY: u64 = 0xCBF29CE484222325;
 
 // Times 2^40 + 0x1B3, modulo 2^64: each part by itself stays below 2^64.
-fn times_prime(x: u64) -> u64 {
+fn times_prime(x: u64) -> u64
+    ensures { λ r. ⌜ r ≡ x * 0x100000001B3 % 2 ^ 64 ⌝ }
+{
     let shifted = x % 0x1000000 * 0x10000000000;
     let low = x % 0x100000000 * 0x1B3;
     let high = x / 0x100000000 * 0x1B3 % 0x100000000 * 0x100000000;
     std::num::wrapping_add_u64(shifted, std::num::wrapping_add_u64(low, high))
 }
 
-pub fn with_byte(sum: u64, byte: u8) -> u64 {
+pub fn with_byte(sum: u64, byte: u8) -> u64
+    ensures { λ r. ⌜ r ≡ fnv sum byte ⌝ }
+{
     times_prime(sum ^ (byte as u64))
 }
 

@@ -1,4 +1,5 @@
 // The lines: numbers in decimal, bytes in two capital hex digits, digests in sixteen.
+ghost use Prim.Native.Nat.{_<_};
 use dsp::Dsp;
 use libc::STDOUT_FILENO;
 
@@ -12,7 +13,9 @@ pub fn numbered(words: &[u8], number: u64) {
     say(b"\n");
 }
 
-fn digit(n: u8) -> u8 {
+fn digit(n: u8) -> u8
+    requires { ⌜ n < 16 ⌝ }
+{
     if n < 10 { b'0' + n } else { b'A' - 10 + n }
 }
 

@@ -1,4 +1,7 @@
 // The log's records, and the refusal of a malformed log (document 01, "Log, sheet, program").
+ghost use Prim.Native.Nat.{_≤_, _<_};
+ghost use lib.ListN.{length};
+
 const LOG_MOST: usize = 60000;
 
 const TICKS_MOST: u32 = 32000;
@@ -15,7 +18,9 @@ pub enum Record {
 }
 
 // "5 for a lone byte, 4, 5, then 6 or 7": 7 is for whoever counts the ticks.
-pub fn record_at(log: &[u8], at: usize) -> Record {
+pub fn record_at(log: &[u8], at: usize) -> Record
+    requires { ⌜ at < length (now log) ⌝ }
+{
     let left = log.len() - at;
     if left < 2 {
         return Record::Refused(5);
@@ -69,7 +74,9 @@ fn write(register: u8, value: u8) -> Record {
     Record::Write(register, value)
 }
 
-pub fn size(record: Record) -> usize {
+pub fn size(record: Record) -> usize
+    ensures { λ r. ⌜ (2 ≤ r) × (r ≤ 4) ⌝ }
+{
     match record {
         Record::Write(_, _) => 4,
         Record::Ticks(_) => 4,

@@ -1,4 +1,7 @@
 // A checked log, run on the chip from `new`.
+ghost use mathlib.Core.Path.{_≡_};
+ghost use Prim.Native.Nat.{_+_, _≤_};
+ghost use lib.ListN.{length};
 use crate::digest::EMPTY;
 use crate::digest::of_bytes;
 use crate::digest::with_registers;
@@ -20,7 +23,9 @@ pub struct Run {
 }
 
 impl Run {
-    fn new() -> Self {
+    fn new() -> Self
+        ensures { λ r. ⌜ (r .ticks ≡ 0) × (r .readings ≡ 0) ⌝ }
+    {
         let d = Dsp::new();
         Run {
             refusal: 0,
@@ -32,7 +37,9 @@ impl Run {
         }
     }
 
-    fn write(mut self, register: u8, value: u8) -> Self {
+    fn write(mut self, register: u8, value: u8) -> Self
+        ensures { λ r. ⌜ (r .ticks ≡ self .ticks) × (r .readings ≡ self .readings) ⌝ }
+    {
         let d = self.dsp;
         let a = d.write_reg(register, value);
         let e = a.dsp;
@@ -42,7 +49,10 @@ impl Run {
     }
 
     // A tick is `step`, then `render_audio_single`.
-    fn tick(mut self, ram: &mut [u8]) -> Self {
+    fn tick(mut self, ram: &mut [u8]) -> Self
+        requires { ⌜ self .ticks ≤ 0x200000000 ⌝ }
+        ensures { λ r. ⌜ (r .ticks ≤ self .ticks + 1) × (r .readings ≡ self .readings) ⌝ }
+    {
         let d = self.dsp;
         let a = d.step(ram);
         let e = a.dsp;
@@ -59,14 +69,17 @@ impl Run {
         self
     }
 
-    fn reading(mut self, register: u8) -> Self {
+    fn reading(mut self, register: u8) -> Self
+        requires { ⌜ self .readings ≤ 0x10000 ⌝ }
+        ensures { λ r. ⌜ (r .ticks ≡ self .ticks) × (r .readings ≡ self .readings + 1) ⌝ }
+    {
         let d = self.dsp;
         self.readings += 1;
         lines::reading(self.readings, register, d.read_reg(register));
         self
     }
 
-    fn tell(self, ram: &[u8]) {
+    pub fn tell(self, ram: &[u8]) {
         if self.refusal != 0 {
             lines::numbered(b"REFUSED ", self.refusal as u64);
             return;
@@ -80,7 +93,10 @@ impl Run {
     }
 }
 
-fn ticked(run: Run, ram: &mut [u8], count: u16) -> Run {
+fn ticked(run: Run, ram: &mut [u8], count: u16) -> Run
+    requires { ⌜ run .ticks ≤ 0x100000000 ⌝ }
+    ensures { λ r. ⌜ (r .ticks ≤ run .ticks + 0x10000) × (r .readings ≡ run .readings) ⌝ }
+{
     let mut r = run;
     let mut i: u16 = 0;
     while i < count {
@@ -93,7 +109,10 @@ fn ticked(run: Run, ram: &mut [u8], count: u16) -> Run {
     r
 }
 
-fn played(run: Run, ram: &mut [u8], record: Record) -> Run {
+fn played(run: Run, ram: &mut [u8], record: Record) -> Run
+    requires { ⌜ (run .ticks ≤ 0x100000000) × (run .readings ≤ 0x10000) ⌝ }
+    ensures { λ r. ⌜ (r .ticks ≤ run .ticks + 0x10000) × (r .readings ≤ run .readings + 1) ⌝ }
+{
     match record {
         Record::Write(register, value) => run.write(register, value),
         Record::Ticks(count) => ticked(run, ram, count),
@@ -103,17 +122,18 @@ fn played(run: Run, ram: &mut [u8], record: Record) -> Run {
     }
 }
 
-pub fn run(log: &[u8], ram: &mut [u8]) {
+pub fn run_log(log: &[u8], ram: &mut [u8]) -> Run
+    requires { ⌜ length (now log) ≤ 0x10000 ⌝ }
+{
     let mut r = Run::new();
     let mut at: usize = 0;
     while at < log.len() {
         let record = record_at(log, at);
         r = played(r, ram, record);
         if r.refusal != 0 {
-            at = log.len();
-        } else {
-            at += size(record);
+            return r;
         }
+        at += size(record);
     }
-    r.tell(ram);
+    r
 }
