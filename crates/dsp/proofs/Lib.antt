@@ -12,3 +12,4 @@ pub mod Tests
 pub mod Turns
 pub mod Fits
 pub mod Lanes
+pub mod Ticks

@@ -76,6 +76,24 @@ impl Glob {
 }
 
 impl Dsp {
+    fn bytes(self) -> [u8; 128]
+        ensures { λ r. ⌜ r ≡ self .registers ⌝ }
+    {
+        self.registers
+    }
+
+    fn lanes(self) -> [Voice; 8]
+        ensures { λ r. ⌜ r ≡ self .voices ⌝ }
+    {
+        self.voices
+    }
+
+    fn delays(self) -> [u8; 8]
+        ensures { λ r. ⌜ r ≡ self .«kon_delay» ⌝ }
+    {
+        self.kon_delay
+    }
+
     fn with_parts(
         self,
         g: Glob,
@@ -104,9 +122,9 @@ impl Dsp {
         let table = gauss_table();
         let rates = rate_table();
         let taps = self.fir_coeff;
-        let mut bytes = self.registers;
-        let mut voices = self.voices;
-        let mut delays = self.kon_delay;
+        let mut bytes = self.bytes();
+        let mut voices = self.lanes();
+        let mut delays = self.delays();
         let mut left = self.fir_history_l;
         let mut right = self.fir_history_r;
         let mut g = self.glob();
