@@ -4,6 +4,7 @@ ghost use lib.ListN.{length};
 use crate::lines::numbered;
 use crate::lines::say;
 use crate::log::refusal_of;
+use crate::log::word;
 use crate::run::run_log;
 
 // A file may have no end, as a device has none: no more cases than these are read.
@@ -32,14 +33,10 @@ fn next(fd: i32, number: u64) -> bool {
         return false;
     }
     let image = head[0];
-    if (got < HEAD) | (image >= IMAGES) {
+    if got < HEAD || image >= IMAGES {
         return stops();
     }
     with_log(fd, number, image, word(head[1], head[2]))
-}
-
-fn word(low: u8, high: u8) -> u16 {
-    low as u16 + 256 * (high as u16)
 }
 
 fn with_log(fd: i32, number: u64, image: u8, length: u16) -> bool

@@ -1,5 +1,6 @@
 // The log's records, and the refusal of a malformed log (document 01, "Log, sheet, program").
-ghost use Prim.Native.Nat.{_≤_, _<_};
+ghost use mathlib.Core.Path.{_≡_};
+ghost use Prim.Native.Nat.{_+_, _*_, _≤_, _<_};
 ghost use lib.ListN.{length};
 
 const LOG_MOST: usize = 60000;
@@ -15,6 +16,12 @@ pub enum Record {
     Reading(u8),
     End,
     Refused(u8),
+}
+
+pub fn word(low: u8, high: u8) -> u16
+    ensures { λ r. ⌜ r ≡ low + 0x100 * high ⌝ }
+{
+    low as u16 + 256 * (high as u16)
 }
 
 // "5 for a lone byte, 4, 5, then 6 or 7": 7 is for whoever counts the ticks.
@@ -43,12 +50,14 @@ pub fn record_at(log: &[u8], at: usize) -> Record
     if first == b'R' {
         write(log[at + 2], log[at + 3])
     } else {
-        Record::Ticks(log[at + 2] as u16 + 256 * (log[at + 3] as u16))
+        Record::Ticks(word(log[at + 2], log[at + 3]))
     }
 }
 
 // How many bytes follow the mark, and 0 for a mark that is none.
-fn body_size(first: u8, second: u8) -> usize {
+fn body_size(first: u8, second: u8) -> usize
+    ensures { λ r. ⌜ r ≤ 2 ⌝ }
+{
     if (first == b'R') & (second == b'W') {
         2
     } else if (first == b'T') & (second == b'K') {
@@ -99,7 +108,7 @@ pub fn refusal_of(log: &[u8]) -> u8 {
         match record {
             Record::Ticks(count) => {
                 ticks += count as u32;
-                if (count == 0) | (ticks > TICKS_MOST) {
+                if count == 0 || ticks > TICKS_MOST {
                     return 7;
                 }
             }
