@@ -1,18 +1,18 @@
 -- A lane keeps its voice fit.
-use mathlib.Core.Bool.{Bool, true, false, not, _&&_}
+use mathlib.Core.Bool.{Bool, not, _&&_}
 use mathlib.Core.List.{List}
 use mathlib.Core.Logic.{inl}
-use mathlib.Core.Path.{_≡_, refl}
-use Prim.Native.Nat.{ℕ, _-_, _≤_, _<_}
+use mathlib.Core.Path.{refl}
+use Prim.Native.Nat.{ℕ, _-_, _≤_}
 use native.Mathlib.Omega.{arith}
 use lib.IntN.{ℤ}
-use Rattle.numbers.specs.Choice.{if_then_else_, _=?_}
+use Rattle.numbers.specs.Choice.{_=?_}
 use Rattle.numbers.proofs.Choice.{chosen}
-use Rattle.dsp.specs.Envelope.{FitEnvelope, FitSettings, isOff}
+use Rattle.dsp.specs.Envelope.{FitSettings, isOff}
 use Rattle.dsp.specs.Fit.{FitVoice}
 use Rattle.dsp.specs.Mix.{bit}
-use Rattle.dsp.specs.Voice.{FitPlay, FitBlock, Sounding, Stepped, voiceStep}
-use Rattle.dsp.specs.Tick.{playOf, settingsOf, voiceOf, keyedOff, keyedOn, delayOf, Waiting, letStep, waited, noised, sourceOf, polledOf, waitedOf, Cell, cellFrom, cellAfter, cellOf}
+use Rattle.dsp.specs.Voice.{FitPlay, Sounding}
+use Rattle.dsp.specs.Tick.{playOf, settingsOf, keyedOff, keyedOn, delayOf, Waiting, waited, noised, sourceOf, polledOf, waitedOf, Cell, cellAfter, cellOf}
 use Rattle.dsp.specs.declared.adsr.Settings.{Settings}
 use Rattle.dsp.specs.declared.voice.Voice.{Voice}
 use Rattle.dsp.specs.declared.play.Source.{Source}

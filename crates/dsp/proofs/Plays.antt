@@ -3,17 +3,17 @@ use mathlib.Core.Path.{_≡_, refl}
 use mathlib.Core.Bool.{Bool, true, false, not, _&&_}
 use mathlib.Core.List.{List}
 use mathlib.Core.Logic.{inr}
-use Prim.Native.Nat.{ℕ, zero, suc, _+_, _-_, _/_, _%_, _≤_, _<_}
+use Prim.Native.Nat.{ℕ, zero, suc, _+_, _-_, _%_, _≤_, _<_}
 use native.Mathlib.Omega.{arith}
 use native.Mathlib.Decide.{decLt}
 use borrow.Author.Tests.{eq-eqb, ne-eqb}
-use lib.IntN.{ℤ, pos}
-use lib.ListN.{length, getD}
-use Rattle.numbers.specs.Choice.{if_then_else_, _≤?_, _=?_}
+use lib.IntN.{ℤ}
+use lib.ListN.{length}
+use Rattle.numbers.specs.Choice.{_≤?_, _=?_}
 use Rattle.numbers.proofs.Choice.{chosen, least-le}
-use Rattle.dsp.specs.Brr.{wordAt, Decoded, decodeBlock}
+use Rattle.dsp.specs.Brr.{wordAt, decodeBlock}
 use Rattle.dsp.specs.Envelope.{FitEnvelope, FitSettings, envelopeTick}
-use Rattle.dsp.specs.Voice.{Sounding, Stepped, FitBlock, FitPlay, pitchOf, positionOf, samplesTaken, muted, filled, placed, withBlock, decodedAt, nextAddress, nextBlock, resolved, heard, heardNext, lastOf, takeOne, consume, withEnvelope, withPosition, idle, advanced, interpolated, shown, sounded, voiceStep}
+use Rattle.dsp.specs.Voice.{Sounding, Stepped, FitBlock, FitPlay, pitchOf, positionOf, samplesTaken, muted, filled, placed, decodedAt, nextAddress, nextBlock, resolved, heard, heardNext, lastOf, takeOne, consume, withEnvelope, withPosition, idle, advanced, interpolated, shown, sounded, voiceStep}
 use Rattle.dsp.specs.declared.adsr.Settings.{Settings}
 use Rattle.dsp.specs.declared.play.Source.{Source}
 use Rattle.dsp.specs.declared.play.Play.{Play}

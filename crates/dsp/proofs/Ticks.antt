@@ -1,29 +1,25 @@
 -- A tick of the machine: what it keeps, and how its parts make the definition.
-use mathlib.Core.Bool.{Bool, not, _&&_}
+use mathlib.Core.Bool.{Bool}
 use mathlib.Core.List.{List}
-use mathlib.Core.Path.{_≡_, refl, sym, ap, _∙_, subst}
-use Prim.Native.Nat.{ℕ, zero, suc, _+_, _*_, _≤_, _<_}
+use mathlib.Core.Path.{_≡_, refl, _∙_}
+use Prim.Native.Nat.{ℕ, _+_, _*_, _≤_, _<_}
 use native.Mathlib.Omega.{arith}
 use lib.IntN.{ℤ}
 use lib.ListN.{getD, set, length, length-set}
-use Rattle.numbers.specs.Choice.{if_then_else_}
 use Rattle.numbers.proofs.Choice.{chosen}
-use Rattle.dsp.specs.Machine.{noVoice, Parts, apart, together}
+use Rattle.dsp.specs.Machine.{noVoice, apart, together}
 use Rattle.dsp.specs.Fit.{FitVoice, FitGlob, Fit}
 use Rattle.dsp.specs.Registers.{turns}
 use Rattle.dsp.specs.Mix.{bit}
-use Rattle.dsp.specs.Echo.{Echo, echoTick, echoWritten, echoStored, echoNow}
-use Rattle.dsp.specs.Tick.{Cell, cellOf, putBytes, newAcc, Landed, turned, Round, turn, voicesTick, polls, globTick, sharedFrom, sharedOf, Bench, startOf, echoed, tickOf}
-use Rattle.dsp.specs.declared.voice.Voice.{Voice}
-use Rattle.dsp.specs.declared.mix.Stereo.{Stereo}
+use Rattle.dsp.specs.Echo.{Echo, echoTick, echoWritten, echoStored}
+use Rattle.dsp.specs.Tick.{cellOf, putBytes, turned, Round, turn, voicesTick, globTick, sharedFrom, sharedOf, Bench, startOf, echoed, tickOf}
 use Rattle.dsp.specs.declared.lane.Shared.{Shared}
-use Rattle.dsp.specs.declared.lane.Acc.{Acc}
 use Rattle.dsp.specs.declared.registers.Dsp.{Dsp}
 use Rattle.dsp.specs.declared.registers.Glob.{Glob}
 use Rattle.dsp.proofs.Turns.{turns-keep, set-keeps}
 use Rattle.dsp.proofs.Envelopes.{fit-kept-noise}
 use Rattle.dsp.proofs.Echoes.{fit-kept-echo}
-use Rattle.dsp.proofs.Lanes.{FitCell, fit-kept-cell}
+use Rattle.dsp.proofs.Lanes.{fit-kept-cell}
 
 -- ---- the voices
 
@@ -111,3 +107,11 @@ fit-kept-bench b h =
       round = record { bytes = r .bytes; count = r .count; waits = r .waits; voices = r .voices; delays = r .delays };
       glob = fit-kept-echo _ _ _ (glob-kept (b .parts .glob) (h .glob));
     }
+
+-- a tick of a fit record leaves a fit one; the arrays of a record of the language have these lengths
+pub fit-kept-tick : (d : Dsp) (ram : List ℕ) → length ram ≡ 0x10000 → length (d .registers) ≡ 128 → length (d .voices) ≡ 8 → length (d .«kon_delay») ≡ 8 → Fit d
+    → Fit (together (tickOf (record { parts = apart d; ram = ram }) .parts))
+fit-kept-tick d ram lr lb lv ld h =
+    let b : Bench = record { parts = apart d; ram = ram } in
+    let k = fit-kept-bench b (record { ram = lr; round = record { bytes = lb; count = lv; waits = ld; voices = h .voices; delays = h .delays }; glob = h .glob }) in
+    record { glob = k .glob; voices = k .round .voices; delays = k .round .delays }

@@ -1,7 +1,6 @@
 -- One tick of the machine: poll, noise, voices 0 to 7, echo. What a voice depends on stands in `cellOf`.
 use mathlib.Core.Bool.{Bool, true, false, not, _&&_}
 use mathlib.Core.List.{List}
-use mathlib.Core.Path.{_≡_}
 use Prim.Native.Nat.{ℕ, zero, suc, _+_, _-_, _*_, _^_}
 use lib.Bits.{bitAnd, bitOr}
 use lib.IntN.{ℤ, pos}

@@ -1,5 +1,5 @@
 -- One voice for one tick: envelope; idle return; resolve and decode; pitch; consume; interpolate; ENVX.
-use mathlib.Core.Bool.{Bool, true, false, not, _&&_, _||_}
+use mathlib.Core.Bool.{Bool, false, not, _&&_, _||_}
 use mathlib.Core.List.{List, [], _∷_}
 use mathlib.Core.Logic.{_⊎_}
 use mathlib.Core.Path.{_≡_}

@@ -7,7 +7,7 @@ ghost use Rattle.dsp.specs.Clock.{periods};
 ghost use Rattle.dsp.specs.Gauss.{weights};
 ghost use Rattle.dsp.specs.Envelope.{FitSettings};
 ghost use Rattle.dsp.specs.Fit.{FitVoice};
-ghost use Rattle.dsp.specs.Voice.{FitPlay, Sounding};
+ghost use Rattle.dsp.specs.Voice.{FitPlay};
 ghost use Rattle.dsp.specs.Tick.{playOf, settingsOf, voiceOf, polledOf, waitedOf, Cell, cellAfter, keyedOff, keyedOn, delayOf, Waiting, waited, noised, sourceOf, withBit, putBytes, newAcc, added, Landed, turned};
 use crate::adsr::Adsr;
 use crate::adsr::Envelope;

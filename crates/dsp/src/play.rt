@@ -6,7 +6,6 @@ ghost use lib.ListN.{length};
 ghost use Rattle.dsp.specs.Clock.{periods};
 ghost use Rattle.dsp.specs.Gauss.{weights};
 ghost use Rattle.dsp.specs.Envelope.{FitSettings};
-ghost use Rattle.dsp.specs.Brr.{Decoded};
 ghost use Rattle.dsp.specs.Voice.{FitPlay, FitBlock, Sounding, Stepped, pitchOf, positionOf, muted, filled, placed, decodedAt, nextAddress, nextBlock, resolved, heard, takeOne, consume, idle, advanced, interpolated, voiceStep};
 use crate::adsr::Envelope;
 use crate::adsr::EnvelopePhase;
@@ -14,7 +13,6 @@ use crate::adsr::Settings;
 use crate::adsr::is_off;
 use crate::brr::Block;
 use crate::brr::decode_brr_block;
-use crate::brr::ram_read8;
 use crate::brr::read_le16;
 use crate::gauss::interpolate;
 

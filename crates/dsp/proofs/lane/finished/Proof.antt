@@ -3,11 +3,10 @@ use borrow.Author.Needs.{needs}
 use mathlib.Core.Path.{_≡_, _∙_, ap}
 use Prim.Native.Nat.{_<_}
 use lib.Signed.{mag}
-use lib.IntN.{ℤ}
 use mir.Syntax.{w16}
 use Rattle.numbers.proofs.Range.{landed}
 use Rattle.dsp.specs.Mix.{bit, scaledOutput}
-use Rattle.dsp.specs.Tick.{noised, Waiting, Cell, cellFrom, cellAfter}
+use Rattle.dsp.specs.Tick.{noised, Waiting, cellFrom, cellAfter}
 use Rattle.dsp.specs.declared.play.Play.{Play}
 use Rattle.dsp.proofs.lane.finished.Statement.{statement}
 use Rattle.dsp.proofs.lane.finished.Tie as tie

@@ -1,11 +1,11 @@
 -- The callees, with the read-backs removed; a fit voice has a level that keeps its output to 16 bits.
 use borrow.Author.Needs.{needs}
-use mathlib.Core.Path.{_≡_, _∙_, sym, ap, subst}
+use mathlib.Core.Path.{_∙_, sym, ap, subst}
 use Prim.Native.Nat.{_+_, _*_, _≤_}
 use lib.ListN.{getD}
 use mir.Syntax.{w8, w16}
 use Rattle.numbers.proofs.Range.{landed}
-use Rattle.dsp.specs.Tick.{Waiting, waitedOf, Cell, cellAfter, cellOf, added, putBytes, Landed, turned}
+use Rattle.dsp.specs.Tick.{Waiting, waitedOf, cellAfter, cellOf, added, putBytes, turned}
 use Rattle.dsp.specs.Tick as ticks
 use Rattle.dsp.proofs.Lanes.{fit-kept-waited}
 use Rattle.dsp.proofs.lane.lane.Statement.{statement}

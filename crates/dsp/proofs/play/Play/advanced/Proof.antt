@@ -3,7 +3,7 @@ use borrow.Author.Needs.{needs}
 use mathlib.Core.Path.{_∙_}
 use Prim.Native.Nat.{_-_, _/_, _%_}
 use native.Mathlib.Omega.{arith}
-use Rattle.dsp.specs.Voice.{Sounding, FitBlock, withPosition, consume, samplesTaken, advanced}
+use Rattle.dsp.specs.Voice.{withPosition, consume, samplesTaken, advanced}
 use Rattle.dsp.proofs.Plays.{position-least}
 use Rattle.dsp.proofs.play.Play.advanced.Statement.{statement}
 use Rattle.dsp.proofs.play.Play.advanced.Tie as tie

@@ -6,8 +6,7 @@ use lib.Signed.{mag}
 use mir.Syntax.{w16}
 use Rattle.numbers.proofs.Range.{landed}
 use Rattle.dsp.specs.Brr.{Decoded, decodeBlock}
-use Rattle.dsp.specs.Voice.{Sounding, withBlock, decodedAt}
-use Rattle.dsp.specs.declared.play.Play.{Play}
+use Rattle.dsp.specs.Voice.{withBlock, decodedAt}
 use Rattle.dsp.proofs.play.Play.decoded_at.Statement.{statement}
 use Rattle.dsp.proofs.play.Play.decoded_at.Tie as tie
 

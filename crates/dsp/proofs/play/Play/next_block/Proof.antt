@@ -2,7 +2,7 @@
 use borrow.Author.Needs.{needs}
 use mathlib.Core.Path.{_∙_, ap}
 use Prim.Native.Nat.{ℕ}
-use Rattle.dsp.specs.Voice.{Sounding, decodedAt, nextBlock}
+use Rattle.dsp.specs.Voice.{decodedAt, nextBlock}
 use Rattle.dsp.proofs.play.Play.next_block.Statement.{statement}
 use Rattle.dsp.proofs.play.Play.next_block.Tie as tie
 

@@ -1,10 +1,9 @@
 -- By idleness; each part keeps what the next one requires.
 use borrow.Author.Needs.{needs}
 use mathlib.Core.Path.{_≡_, _∙_, sym, ap, subst}
-use native.Mathlib.Omega.{arith}
 use Prim.Native.Nat.{_/_, _≤_}
 use lib.ListN.{length}
-use Rattle.dsp.specs.Voice.{Sounding, Stepped, FitPlay, FitBlock, withEnvelope, resolved, advanced, interpolated, shown, sounded, voiceStep}
+use Rattle.dsp.specs.Voice.{Sounding, FitBlock, withEnvelope, resolved, advanced, interpolated, shown, sounded, voiceStep}
 use Rattle.dsp.specs.Envelope.{envelopeTick}
 use Rattle.dsp.specs.declared.adsr.Envelope.{Envelope}
 use Rattle.dsp.proofs.Plays.{Apt, rests, plays, enveloped-apt, fit-apt, resolved-sized, resolved-ready, resolved-apt, advanced-apt, shown-apt}

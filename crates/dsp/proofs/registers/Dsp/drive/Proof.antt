@@ -12,9 +12,7 @@ use Rattle.dsp.specs.Fit.{FitGlob}
 use Rattle.dsp.specs.Noise.{FitNoise}
 use Rattle.dsp.specs.Registers.{turns}
 use Rattle.dsp.specs.Tick.{Round, turn, landing, Bench, tickOf, ticksOf}
-use Rattle.dsp.specs.Echo.{Echo}
 use Rattle.dsp.specs.declared.voice.Voice.{Voice}
-use Rattle.dsp.specs.declared.lane.Acc.{Acc}
 use Rattle.dsp.specs.declared.registers.Glob.{Glob}
 use Rattle.dsp.proofs.Ticks.{RoundFit, BenchFit, glob-kept, glued, fit-kept-turn, fit-kept-bench}
 use Rattle.dsp.proofs.registers.Dsp.drive.Statement.{statement}
