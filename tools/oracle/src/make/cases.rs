@@ -91,9 +91,6 @@ mod tests {
         let named = made.names.lines().count();
         assert_eq!(made.cases.len(), named + 3);
         assert_eq!(made.rams.len(), 1 + IMAGES_STORED);
-        for case in &made.cases {
-            assert!(ticks(case) > 0);
-        }
     }
 
     #[test]

@@ -5,6 +5,7 @@ mod echo;
 mod image;
 mod keys;
 mod mix;
+mod refused;
 mod script;
 mod voices;
 
@@ -18,23 +19,24 @@ pub type Named = (&'static str, fn(&mut Script));
 
 /// All of them run on the one image.
 pub fn all() -> Made {
+    let named: Vec<_> = played().into_iter().chain(refused::cases()).collect();
+    let line = |(number, (name, _)): (usize, &(&str, Case))| format!("{number} {name}\n");
+    Made {
+        names: (1..).zip(&named).map(line).collect(),
+        cases: named.into_iter().map(|(_, case)| case).collect(),
+        rams: vec![image::image()],
+    }
+}
+
+fn played() -> Vec<(&'static str, Case)> {
     let tables = [keys::TABLE, voices::TABLE, mix::TABLE, echo::TABLE];
-    let mut cases = Vec::new();
-    let mut names = String::new();
-    for (name, play) in tables.concat() {
+    let case = |(name, play): &Named| {
         let mut script = Script::new();
         play(&mut script);
-        cases.push(Case {
-            ram: 0,
-            log: encode(&script.ended()),
-        });
-        names += &format!("{} {name}\n", cases.len());
-    }
-    Made {
-        cases,
-        rams: vec![image::image()],
-        names,
-    }
+        let log = encode(&script.ended());
+        (*name, Case { ram: 0, log })
+    };
+    tables.concat().iter().map(case).collect()
 }
 
 #[cfg(test)]
@@ -55,14 +57,13 @@ mod tests {
     /// A case that gives what another gives would show nothing of its own.
     #[test]
     fn outcomes_differ() {
-        let made = all();
-        let outcome = |case: &Case| {
-            let outcome = chip::run(&case.log, made.rams[0].clone()).unwrap();
+        let outcome = |(_, case): &(&str, Case)| {
+            let outcome = chip::run(&case.log, image::image()).unwrap();
             (outcome.trace, digest(&outcome.ram[..]))
         };
-        let mut outcomes: Vec<_> = made.cases.iter().map(outcome).collect();
+        let mut outcomes: Vec<_> = played().iter().map(outcome).collect();
         outcomes.sort();
         outcomes.dedup();
-        assert_eq!(outcomes.len(), made.cases.len());
+        assert_eq!(outcomes.len(), played().len());
     }
 }

@@ -153,11 +153,15 @@ pub const TABLE: &[Named] = &[
         s.read(PMON);
         s.ticks(20);
     }),
-    // P7: pitch source -32768 gives 0. The level is $7FF at most, so the
-    // nearest that a log can give is the lowest noise or sample at Attack's
-    // end; P8 likewise: position capped at $7FFF.
-    ("modulated-down-p7", |s| modulated(s, LOW)),
-    ("modulated-up-p8", |s| modulated(s, HIGH)),
+    // P7: pitch source -32768 gives 0. The noise register as it starts is
+    // that sample.
+    ("modulated-down-p7", |s| {
+        s.set(NON, 0x01);
+        modulated(s, ONE);
+    }),
+    // P8: source 32766, the highest, gives 32750. At fraction $F00 the
+    // interpolation of the high source clamps.
+    ("modulated-up-p8", |s| modulated(s, 0x0F00)),
     // "NON replaces the sample after the voice step": the BRR decoding goes
     // on under it.
     ("noise-instead-of-the-sample", |s| {
@@ -218,12 +222,17 @@ fn gain_mode(s: &mut Script, value: u8) {
     s.ticks(100);
 }
 
-/// Attack at rate 15 takes the level of voice 0 to $7FF.
-fn modulated(s: &mut Script, source: u8) {
-    s.voice(0, source, ONE);
-    s.adsr(0, 0x8F, 0xE0);
+/// Decay lifts the level of voice 0 to $800 (P9), where the output is the
+/// sample itself. Its first step is of this pitch, all others of ONE.
+fn modulated(s: &mut Script, first: u16) {
+    s.voice(0, HIGH, first);
+    s.adsr(0, 0xFF, 0xE0);
     s.voice(1, WAVE, 0x3FFF);
-    s.set(PMON, 0x02);
     s.set(KON, 0x03);
-    s.ticks(40);
+    s.ticks(6);
+    s.pitch(0, ONE);
+    s.ticks(9);
+    s.read(OUTX);
+    s.set(PMON, 0x02);
+    s.ticks(30);
 }
