@@ -22,7 +22,10 @@ pub const TABLE: &[Named] = &[
         taps(s, [0x7F, 0x7F, 0x7F, 0x7F, 0x7F, 0x7F, 0x7F, 0])
     }),
     // "the eighth cut, added; clamp; clear bit 0."
-    ("eighth-cut", |s| taps(s, [0, 0, 0, 0, 0, 0, 0, 0x80])),
+    ("eighth-cut", |s| {
+        lowest(s, [0, 0, 0, 0, 0, 0, 0, 0x80]);
+        s.ticks(12);
+    }),
     ("seven-and-eighth-clamp", |s| {
         taps(s, [0x80, 0x7F, 0x80, 0x7F, 0x80, 0x7F, 0x80, 0x7F])
     }),
@@ -35,7 +38,19 @@ pub const TABLE: &[Named] = &[
     // "Echo input plus feedback also clears bit 0"; products "shift by 7",
     // "cut to 16 bits".
     ("feedback", |s| fed_back(s, 0x60)),
-    ("feedback-lowest", |s| fed_back(s, 0x80)),
+    ("feedback-negative", |s| fed_back(s, 0x80)),
+    // -32768 by -128 is cut to -32768.
+    ("feedback-cut", |s| {
+        lowest(s, [0, 0, 0, 0, 0, 0, 0x10, 0x7F]);
+        s.set(EFB, 0x80);
+        s.set(FLG, 0);
+        s.ticks(12);
+    }),
+    ("echo-volume-cut", |s| {
+        lowest(s, [0, 0, 0, 0, 0, 0, 0x10, 0x7F]);
+        s.set(EVOL_LEFT, 0x80);
+        s.ticks(12);
+    }),
     ("echo-input-clamps", |s| {
         for (voice, source) in (0..).zip([HIGH, HIGH, LOW]) {
             s.voice(voice, source, ONE);
@@ -133,12 +148,23 @@ fn writing(s: &mut Script, page: u8, edl: u8) {
     s.set(FLG, 0);
 }
 
-fn taps(s: &mut Script, values: [u8; 8]) {
-    hear_the_echo(s);
+fn set_taps(s: &mut Script, values: [u8; 8]) {
     for (tap, value) in (0..).zip(values) {
         s.set(of_voice(tap, FIR), value);
     }
+}
+
+fn taps(s: &mut Script, values: [u8; 8]) {
+    hear_the_echo(s);
+    set_taps(s, values);
     s.ticks(40);
+}
+
+/// Every pair that the echo finds is the lowest.
+fn lowest(s: &mut Script, values: [u8; 8]) {
+    hear_the_echo(s);
+    s.set(ESA, LOWEST_PAGE);
+    set_taps(s, values);
 }
 
 fn one_tap(s: &mut Script, tap: u8) {

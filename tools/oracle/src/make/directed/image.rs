@@ -11,9 +11,11 @@ pub const OTHER_DIRECTORY: u8 = 0x03;
 pub const ECHO_PAGE: u8 = 0x80;
 const ECHO_END: usize = 0xF800;
 
-/// Sources. 28672 in each sample.
+/// Page of 64 pairs of -32768.
+pub const LOWEST_PAGE: u8 = 0x7F;
+
+/// Sources. 24576 in each sample, -24576 in each.
 pub const HIGH: u8 = 0;
-/// -32768 in each sample.
 pub const LOW: u8 = 1;
 /// Three blocks of other filters that loop to the second.
 pub const WAVE: u8 = 2;
@@ -27,15 +29,19 @@ pub const LEADS: u8 = 5;
 pub const WRAPS: u8 = 6;
 /// Shifts above 12: -2048 and 0 by the nibble's sign.
 pub const SHIFTED: u8 = 7;
-const SOURCES: u16 = 8;
+/// 28672 in each sample, -32768 in each: so loud that the interpolation
+/// cuts or clamps them, by the fraction.
+pub const LOUD: u8 = 8;
+pub const LOWEST: u8 = 9;
+const SOURCES: u16 = 10;
 
 const LOOP_END: u8 = 0x03;
 const END: u8 = 0x01;
 const STARTS: [u16; SOURCES as usize] = [
-    0x0400, 0x0410, 0x0420, 0x0450, 0x0460, 0x0480, 0xFFFC, 0x0490,
+    0x0400, 0x0410, 0x0420, 0x0450, 0x0460, 0x0480, 0xFFFC, 0x0490, 0x04A0, 0x04B0,
 ];
 const LOOPS: [u16; SOURCES as usize] = [
-    0x0400, 0x0410, 0x0429, 0x0450, 0x0460, 0x0420, 0x0420, 0x0490,
+    0x0400, 0x0410, 0x0429, 0x0450, 0x0460, 0x0420, 0x0420, 0x0490, 0x04A0, 0x04B0,
 ];
 
 pub fn image() -> Vec<u8> {
@@ -44,12 +50,15 @@ pub fn image() -> Vec<u8> {
     for byte in &mut ram[usize::from(ECHO_PAGE) << 8..ECHO_END] {
         *byte = random.byte();
     }
+    for pair in ram[usize::from(LOWEST_PAGE) << 8..][..256].chunks_mut(2) {
+        pair.copy_from_slice(&i16::MIN.to_le_bytes());
+    }
     for source in 0..SOURCES {
         put_entry(&mut ram, DIRECTORY, source, source);
         put_entry(&mut ram, OTHER_DIRECTORY, source, SOURCES - 1 - source);
     }
-    put_block(&mut ram, 0x0400, 0xC0 | LOOP_END, [0x77; 8]);
-    put_block(&mut ram, 0x0410, 0xC0 | LOOP_END, [0x88; 8]);
+    put_block(&mut ram, 0x0400, 0xC0 | LOOP_END, [0x66; 8]);
+    put_block(&mut ram, 0x0410, 0xC0 | LOOP_END, [0xAA; 8]);
     put_wave(&mut ram);
     put_block(&mut ram, 0x0450, 0xC0 | END, [0x71; 8]);
     put_block(&mut ram, 0x0460, 0xB0, [0x73; 8]);
@@ -62,6 +71,8 @@ pub fn image() -> Vec<u8> {
         0xD0 | LOOP_END,
         [0x8F, 0x07, 0x1E, 0xF1, 0, 0x80, 0x7F, 0x33],
     );
+    put_block(&mut ram, 0x04A0, 0xC0 | LOOP_END, [0x77; 8]);
+    put_block(&mut ram, 0x04B0, 0xC0 | LOOP_END, [0x88; 8]);
     put_wrapping(&mut ram);
     ram
 }

@@ -27,14 +27,18 @@ pub const TABLE: &[Named] = &[
         s.set(KON, 0xFF);
         s.ticks(50);
     }),
-    // P10: dry -32768 with master -128 is cut to -32768.
+    // P10: dry -32768 with master -128 is cut to -32768. The noise register
+    // as it starts is that sample.
     ("master-lowest-p10", |s| {
+        s.set(NON, 0x03);
         s.set(MVOL_LEFT, 0x80);
         s.set(MVOL_RIGHT, 0x80);
-        three(s, [LOW, LOW, LOW]);
-        s.volume(0, 0x7F, 0x7F);
-        s.volume(1, 0x7F, 0x7F);
-        s.ticks(5);
+        for voice in 0..2 {
+            s.voice(voice, WAVE, ONE);
+            s.volume(voice, 0x7F, 0x80);
+        }
+        s.set(KON, 0x03);
+        s.ticks(9);
     }),
     // "With FLG bit 6 or 7 the stereo sample is 0, 0"; the voices go on.
     ("mute-by-bit-6", |s| {

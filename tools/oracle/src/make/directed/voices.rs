@@ -18,6 +18,9 @@ pub const TABLE: &[Named] = &[
         s.playing(0, SHORT, 0x1800);
         s.ticks(30);
         s.read(ENDX);
+        s.set(ENDX, 0);
+        s.ticks(30);
+        s.read(ENDX);
     }),
     // "After a block change with `key_on` clear, the tick's further samples
     // are dropped, in Release too." Three samples a tick meet a change in
@@ -160,7 +163,7 @@ pub const TABLE: &[Named] = &[
         modulated(s, ONE);
     }),
     // P8: source 32766, the highest, gives 32750. At fraction $F00 the
-    // interpolation of the high source clamps.
+    // interpolation of the loud source clamps.
     ("modulated-up-p8", |s| modulated(s, 0x0F00)),
     // "NON replaces the sample after the voice step": the BRR decoding goes
     // on under it.
@@ -186,6 +189,20 @@ pub const TABLE: &[Named] = &[
             s.ticks(20);
         }
     }),
+    ("noise-in-release", |s| {
+        s.set(FLG, NO_ECHO_WRITES | 0x1F);
+        s.set(NON, 0x01);
+        s.playing(0, WAVE, ONE);
+        s.set(KOFF, 0x01);
+        s.ticks(12);
+    }),
+    // "Interpolation .. cuts the first three's sum to 16 bits, adds the
+    // fourth, clamps."
+    ("interpolation-of-the-loud", |s| {
+        s.playing(0, LOUD, 0x1111);
+        s.playing(1, LOWEST, 0x0F31);
+        s.ticks(40);
+    }),
     // P11: DIR $FF, SRCN $40 is the entry $0000.
     ("directory-wraps-p11", |s| {
         s.set(DIR, 0xFF);
@@ -210,6 +227,9 @@ pub const TABLE: &[Named] = &[
         s.set(of_voice(0, SRCN), WAVE);
         s.set(KON, 0x01);
         s.ticks(40);
+        s.set(of_voice(0, SRCN), WRAPS);
+        s.set(KON, 0x01);
+        s.ticks(40);
     }),
 ];
 
@@ -225,7 +245,7 @@ fn gain_mode(s: &mut Script, value: u8) {
 /// Decay lifts the level of voice 0 to $800 (P9), where the output is the
 /// sample itself. Its first step is of this pitch, all others of ONE.
 fn modulated(s: &mut Script, first: u16) {
-    s.voice(0, HIGH, first);
+    s.voice(0, LOUD, first);
     s.adsr(0, 0xFF, 0xE0);
     s.voice(1, WAVE, 0x3FFF);
     s.set(KON, 0x03);
