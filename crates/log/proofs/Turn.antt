@@ -27,6 +27,10 @@ pub here-first : (log : List ℕ) → Here log 0 0 0
 unfolding decode
 here-first log = record { within = omega arith; few = omega arith; less = omega arith; f = length log + 1; room = omega arith; rest = refl }
 
+-- the place behind a record
+pub moved : {at size behind : ℕ} {r : Record} {n : Next} → n ≡ On r behind → Moves at size n → (at < behind) × (behind ≤ size)
+moved {at} {size} {behind} {r} e m = let v : Moves at size (On r behind) = subst (Moves at size) e m in (v .0, v .1)
+
 -- the records from a place within the log, opened at the first
 opened : (log : List ℕ) (f at : ℕ) → length log < f + at → at ≤ length log
     → (g : ℕ) × (f ≡ g + 1) × (decodeFrom f log at ≡ before (decodeFrom g log) (readAt log at))
@@ -62,7 +66,7 @@ module _ {log : List ℕ} {at t q : ℕ} {n : Next} (here : Here log at t q) (is
   pub turn : {r : Record} {behind x y : ℕ} → n ≡ On r behind → Moves at (length log) n → x ≡ ticksOf r → y ≡ readingsOf r
       → y < 2 → t + x ≤ 32000 → (at < behind) × Here log behind (t + x) (q + y)
   turn {r} {behind} {x} {y} e m ex ey s h =
-      let v : Moves at (length log) (On r behind) = subst (Moves at (length log)) e m in
+      let v : (at < behind) × (behind ≤ length log) = moved e m in
       let k : here .f ≡ first .0 + 1 = first .1 in (
         v .0,
         record {

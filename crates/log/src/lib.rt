@@ -31,7 +31,8 @@ pub struct Measured {
     pub readings: u32,
 }
 
-fn word(low: u8, high: u8) -> u16
+// 16 bits, low byte first.
+pub fn word(low: u8, high: u8) -> u16
     ensures { λ r. ⌜ r ≡ low + 0x100 * high ⌝ }
 {
     low as u16 + 0x100 * (high as u16)

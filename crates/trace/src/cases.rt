@@ -3,9 +3,9 @@ ghost use Prim.Native.Nat.{_≤_, _<_};
 ghost use lib.ListN.{length};
 use crate::lines::numbered;
 use crate::lines::say;
-use crate::log::refusal_of;
-use crate::log::word;
 use crate::run::run_log;
+use log::measure;
+use log::word;
 
 // A file may have no end, as a device has none: no more cases than these are read.
 const CASES_MOST: u64 = 1000;
@@ -64,12 +64,12 @@ fn case(image: u8, log: &[u8])
 {
     let mut ram = io::large_buffer();
     if load(image, &mut ram) {
-        let refusal = refusal_of(log);
-        if refusal == 0 {
+        let m = measure(log);
+        if m.refusal == 0 {
             let r = run_log(log, &mut ram);
             r.tell(&ram);
         } else {
-            numbered(b"REFUSED ", refusal as u64);
+            numbered(b"REFUSED ", m.refusal as u64);
         }
     } else {
         say(b"REFUSED 1\n");

@@ -3,7 +3,6 @@
 mod cases;
 mod digest;
 mod lines;
-mod log;
 mod run;
 
 fn main() {

@@ -7,10 +7,10 @@ use crate::digest::of_bytes;
 use crate::digest::with_registers;
 use crate::digest::with_sample;
 use crate::lines;
-use crate::log::Record;
-use crate::log::record_at;
-use crate::log::size;
 use dsp::Dsp;
+use log::Next;
+use log::Record;
+use log::read;
 
 // How far a run has come: the chip, the digests of the samples and of every tick, and a refusal that ends it.
 pub struct Run {
@@ -109,16 +109,14 @@ fn ticked(run: Run, ram: &mut [u8], count: u16) -> Run
     r
 }
 
-fn played(run: Run, ram: &mut [u8], record: Record) -> Run
+fn played(run: Run, ram: &mut [u8], found: Record) -> Run
     requires { ⌜ (run .ticks ≤ 0x100000000) × (run .readings ≤ 0x10000) ⌝ }
     ensures { λ r. ⌜ (r .ticks ≤ run .ticks + 0x10000) × (r .readings ≤ run .readings + 1) ⌝ }
 {
-    match record {
-        Record::Write(register, value) => run.write(register, value),
-        Record::Ticks(count) => ticked(run, ram, count),
-        Record::Reading(register) => run.reading(register),
-        Record::End => run,
-        Record::Refused(_) => run,
+    match found {
+        Record::Write { register, value } => run.write(register, value),
+        Record::Ticks { count } => ticked(run, ram, count),
+        Record::Reading { register } => run.reading(register),
     }
 }
 
@@ -127,13 +125,14 @@ pub fn run_log(log: &[u8], ram: &mut [u8]) -> Run
 {
     let mut r = Run::new();
     let mut at: usize = 0;
-    while at < log.len() {
-        let record = record_at(log, at);
-        r = played(r, ram, record);
+    loop {
+        let Next::On { found, at: behind } = read(log, at) else {
+            return r;
+        };
+        r = played(r, ram, found);
         if r.refusal != 0 {
             return r;
         }
-        at += size(record);
+        at = behind;
     }
-    r
 }
