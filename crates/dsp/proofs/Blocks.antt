@@ -7,19 +7,22 @@ use native.Mathlib.Omega.{arith}
 use lib.IntN.{ℤ}
 use lib.ListN.{length, take, set, length-set}
 use lib.Seq.{take-suc-set, take-all}
+use Rattle.numbers.specs.Unsigned.{wrapped}
 use Rattle.dsp.specs.Brr.{byteAt, wordAt, endOf, loopOf, nibbleAt, sampleOf, newest, listed, Decoded, decodeBlock}
 
 -- an address that has wrapped before the sum
-pub byte-wraps : (ram : List ℕ) (a k : ℕ) → byteAt ram (a % 0x10000 + k) ≡ byteAt ram (a + k)
-unfolding byteAt
-byte-wraps ram a k = let e : (a % 0x10000 + k) % 0x10000 ≡ (a + k) % 0x10000 = omega arith in rw e
+pub wraps : (a k : ℕ) → wrapped (wrapped a + k) ≡ wrapped (a + k)
+wraps a k = omega arith
 
-pub word-wraps : (ram : List ℕ) (a k : ℕ) → wordAt ram (a % 0x10000 + k) ≡ wordAt ram (a + k)
+pub byte-wraps : (ram : List ℕ) (a k : ℕ) → byteAt ram (wrapped a + k) ≡ byteAt ram (a + k)
+unfolding byteAt
+byte-wraps ram a k = rw (wraps a k)
+
+pub word-wraps : (ram : List ℕ) (a k : ℕ) → wordAt ram (wrapped a + k) ≡ wordAt ram (a + k)
 unfolding wordAt byteAt
 word-wraps ram a k =
-    let e : (a % 0x10000 + k) % 0x10000 ≡ (a + k) % 0x10000 = omega arith in
-    let d : (a % 0x10000 + k + 1) % 0x10000 ≡ (a + k + 1) % 0x10000 = omega arith in
-    rw (e, d)
+    let d : wrapped (wrapped a + k + 1) ≡ wrapped (a + k + 1) = omega arith in
+    rw (wraps a k, d)
 
 listed-snoc : {A : Type 0} (f : ℕ → A) (k n : ℕ) → listed f (suc k) n ≡ listed f k n ++ (f (n + k) ∷ [])
 listed-snoc f zero n = let z : n ≡ n + 0 = omega arith in ap (λ (j : ℕ). f j ∷ []) z

@@ -7,7 +7,7 @@ use native.Mathlib.Decide.{decLe, decLt}
 use lib.Dec.{T, leb, leb→le}
 use lib.ListN.{getD}
 use borrow.Author.Tests.{le-leb, lt-leb, lt-ltb, le-ltb}
-use Rattle.numbers.specs.Choice.{if_then_else_, _≤?_, _<?_, _=?_}
+use Rattle.numbers.specs.Choice.{_≤?_, _<?_, _=?_}
 use Rattle.numbers.specs.Unsigned.{least}
 use Rattle.numbers.proofs.Range.{and-l, and-r}
 use Rattle.numbers.proofs.Choice.{chosen, least-le}

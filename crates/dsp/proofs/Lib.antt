@@ -2,4 +2,14 @@ pub mod Weights
 pub mod Nibbles
 pub mod Blocks
 pub mod Envelopes
+pub mod Pitch
+pub mod Plays
+pub mod Outputs
+pub mod Echoes
 pub mod Readings
+pub mod Writes
+pub mod Tests
+pub mod Turns
+pub mod Fits
+pub mod Lanes
+pub mod Ticks

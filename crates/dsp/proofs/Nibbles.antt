@@ -1,12 +1,12 @@
 -- What a scaled nibble and a filter stay within, and each as a formula, for what a callee gives.
 use mathlib.Core.Path.{_≡_, refl}
 use mathlib.Core.Bool.{Bool, true, false, _&&_}
-use Prim.Native.Nat.{ℕ, _^_, _*_, _%_, _≤_, _<_}
+use Prim.Native.Nat.{ℕ, _^_, _*_, _%_, _≤_}
 use native.Mathlib.Nat.{le-trans}
 use native.Mathlib.Omega.{arith}
 use lib.Dec.{T, leb, leb→le}
 use lib.IntN.{ℤ, pos, _*ℤ_}
-use lib.Signed.{mag, ltZ}
+use lib.Signed.{ltZ}
 use lib.Pow.{pow-mono}
 use mir.Syntax.{w32}
 use mir.Val.{toZ}

@@ -1,5 +1,5 @@
 -- The envelope: ADSR and GAIN. What happens at a step stands apart from when it happens (`timed`).
-use mathlib.Core.Bool.{Bool, false, not}
+use mathlib.Core.Bool.{Bool, true, false, not}
 use Prim.Native.Nat.{ℕ, _+_, _-_, _*_, _/_, _%_, _≤_}
 use Rattle.numbers.specs.Choice.{if_then_else_, _≤?_, _<?_, _=?_}
 use Rattle.numbers.specs.Unsigned.{least}
@@ -96,6 +96,13 @@ unfoldable pub gainTick : Settings → Envelope → Envelope
 gainTick s e =
     if s .«gain_param» <? 0x80 then levelled e (16 * s .«gain_param») else
     timed (s .«gain_param» % 32) (ramped (s .«gain_param» / 32 % 4)) e
+
+abbrev pub isOff : EnvelopePhase → Bool
+isOff Attack = false
+isOff Decay = false
+isOff Sustain = false
+isOff Release = false
+isOff Off = true
 
 -- GAIN replaces the first three phases
 abbrev pub gains : EnvelopePhase → Settings → Bool

@@ -1,6 +1,13 @@
 pub mod Clock
+pub mod Machine
+pub mod Fit
+pub mod Registers
 pub mod Brr
 pub mod Gauss
 pub mod Envelope
 pub mod Noise
+pub mod Voice
+pub mod Mix
+pub mod Echo
+pub mod Tick
 pub mod Readings

@@ -5,11 +5,17 @@ use mathlib.Core.Path.{_≡_}
 use Prim.Native.Nat.{ℕ}
 use lib.IntN.{ℤ, pos}
 use Rattle.numbers.specs.Signed.{minus}
+use Rattle.numbers.specs.Unsigned.{wrapped}
+use Rattle.sound.specs.Sound.{mastered}
 use Rattle.dsp.specs.Brr.{decodeNibble}
 use Rattle.dsp.specs.Envelope.{envelopeTick}
 use Rattle.dsp.specs.Noise.{shifted}
+use Rattle.dsp.specs.Machine.{newVoice}
+use Rattle.dsp.specs.Voice.{pitchOf, samplesTaken, entryOf}
+use Rattle.dsp.specs.Tick.{playOf}
 use Rattle.dsp.specs.declared.adsr.EnvelopePhase.the-variants.{Decay}
 use Rattle.dsp.specs.declared.adsr.Envelope.{Envelope}
+use Rattle.dsp.specs.declared.play.Source.the-variants.{From}
 use Rattle.dsp.specs.declared.adsr.Settings.{Settings}
 
 pub record Reading : Type 0 where
@@ -52,8 +58,17 @@ readings =
     -- P6 noise $4000, and $0001
     ∷ (pos (shifted 0x4000) reads pos 0x2000)
     ∷ (pos (shifted 0x0001) reads pos 0x4000)
+    -- P7 pitch source -32768
+    ∷ (pos (pitchOf 0x3FFF (From (minus 32768))) reads pos 0)
+    -- P8 source 32766, base $3FFF; from position 0, 7 samples
+    ∷ (pos (pitchOf 0x3FFF (From (pos 32766))) reads pos 32750)
+    ∷ (pos (samplesTaken (playOf false newVoice) 0x3FFF (From (pos 32766))) reads pos 7)
     -- P9 Decay due at $7FF, sustain level 7
     ∷ (pos (envelopeTick deepest (dueDecay 0x7FF) .level) reads pos 0x800)
+    -- P10 dry -32768, master -128
+    ∷ (mastered (minus 32768) (minus 128) (pos 0) (pos 0) reads minus 32768)
+    -- P11 DIR $FF, SRCN $40: entry $0000
+    ∷ (pos (wrapped (entryOf 0xFF 0x40)) reads pos 0)
     ∷ []
 
 -- the claim

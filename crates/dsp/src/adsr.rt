@@ -3,7 +3,9 @@
 ghost use mathlib.Core.Path.{_≡_};
 ghost use Prim.Native.Nat.{_≤_, _<_};
 ghost use Rattle.dsp.specs.Clock.{periods, tickDue};
-ghost use Rattle.dsp.specs.Envelope.{FitEnvelope, FitSettings, counted, levelled, risen, lowered, settled, fallenTo, gained, gains, attackTick, decayTick, sustainTick, releaseTick, gainTick, envelopeTick};
+ghost use Rattle.dsp.specs.Machine.{newAdsr};
+ghost use Rattle.dsp.specs.Fit.{fitAdsr};
+ghost use Rattle.dsp.specs.Envelope.{FitEnvelope, FitSettings, counted, levelled, risen, lowered, settled, fallenTo, gained, isOff, gains, attackTick, decayTick, sustainTick, releaseTick, gainTick, envelopeTick};
 
 // Ticks between two steps for each rate index. Index 0 never fires.
 const ENVELOPE_RATE_TABLE: [u16; 32] = [
@@ -49,6 +51,19 @@ pub enum EnvelopePhase {
     Off,
 }
 
+// The envelope of a voice as the Rust has it: the settings and the state together.
+pub struct Adsr {
+    pub adsr_mode: bool,
+    pub gain_param: u8,
+    pub attack_rate: u8,
+    pub decay_rate: u8,
+    pub sustain_level: u8,
+    pub sustain_rate: u8,
+    pub envelope_level: u16,
+    pub envelope_phase: EnvelopePhase,
+    pub tick_counter: u16,
+}
+
 pub struct Settings {
     pub adsr_mode: bool,
     pub gain_param: u8,
@@ -68,6 +83,35 @@ pub struct Envelope {
 pub struct Tick {
     pub counter: u16,
     pub due: bool,
+}
+
+impl Adsr {
+    pub(crate) fn new() -> Self
+        ensures { λ r. ⌜ r ≡ newAdsr ⌝ }
+    {
+        Self {
+            adsr_mode: false,
+            gain_param: 0,
+            attack_rate: 0,
+            decay_rate: 0,
+            sustain_level: 0,
+            sustain_rate: 0,
+            envelope_level: 0,
+            envelope_phase: EnvelopePhase::Off,
+            tick_counter: 0,
+        }
+    }
+
+    pub(crate) fn is_fit(self) -> bool
+        ensures { λ r. ⌜ r ≡ fitAdsr self ⌝ }
+    {
+        (self.envelope_level <= 0x800)
+            & (self.tick_counter <= 2047)
+            & (self.attack_rate <= 15)
+            & (self.decay_rate <= 7)
+            & (self.sustain_level <= 7)
+            & (self.sustain_rate <= 31)
+    }
 }
 
 // The whole table, for a caller to keep in a local and lend.
@@ -122,6 +166,18 @@ fn gained(mode: u8, level: u16) -> u16
         } else {
             numbers::min(level + 8, 0x7FF)
         },
+    }
+}
+
+pub(crate) fn is_off(phase: EnvelopePhase) -> bool
+    ensures { λ r. ⌜ r ≡ isOff phase ⌝ }
+{
+    match phase {
+        EnvelopePhase::Attack => false,
+        EnvelopePhase::Decay => false,
+        EnvelopePhase::Sustain => false,
+        EnvelopePhase::Release => false,
+        EnvelopePhase::Off => true,
     }
 }
 

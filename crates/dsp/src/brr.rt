@@ -4,7 +4,42 @@ ghost use Prim.Native.Nat.{_+_, _%_, _^_, _≤_, _<_};
 ghost use lib.IntN.{pos};
 ghost use Rattle.numbers.specs.Signed.{cutZ};
 ghost use lib.ListN.{length};
+ghost use Rattle.dsp.specs.Machine.{newBrr};
+ghost use Rattle.dsp.specs.Fit.{fitBrr};
 ghost use Rattle.dsp.specs.Brr.{byteAt, wordAt, scaledZ, filterZ, decodeNibble, sampleOf, Decoded, decodeBlock};
+
+// BRR playback state of one voice.
+pub struct Brr {
+    pub addr: u16,
+    pub nibble_idx: u8,
+    pub prev1: i16,
+    pub prev2: i16,
+    pub block_end: bool,
+    pub sample_buffer: [i16; 16],
+    pub buffer_fill: u8,
+}
+
+impl Brr {
+    pub(crate) fn new() -> Self
+        ensures { λ r. ⌜ r ≡ newBrr ⌝ }
+    {
+        Self {
+            addr: 0,
+            nibble_idx: 0,
+            prev1: 0,
+            prev2: 0,
+            block_end: false,
+            sample_buffer: [0; 16],
+            buffer_fill: 0,
+        }
+    }
+
+    pub(crate) fn is_fit(self) -> bool
+        ensures { λ r. ⌜ r ≡ fitBrr self ⌝ }
+    {
+        (self.nibble_idx <= 15) & ((self.buffer_fill == 0) | (self.buffer_fill == 16))
+    }
+}
 
 // What a block leaves beside its samples: the two newest and the flags of its header.
 pub struct Block {

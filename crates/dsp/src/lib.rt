@@ -1,7 +1,21 @@
 // The chip library: its public entries.
 mod adsr;
 mod brr;
+mod echo;
 mod gauss;
+mod lane;
+mod mix;
 mod noise;
+mod play;
+mod registers;
+mod tick;
+mod voice;
 
+pub use adsr::Adsr;
+pub use adsr::EnvelopePhase;
+pub use brr::Brr;
 pub use brr::decode_brr_nibble;
+pub use mix::Sample;
+pub use registers::Answer;
+pub use registers::Dsp;
+pub use voice::Voice;

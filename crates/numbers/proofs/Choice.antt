@@ -1,7 +1,7 @@
 -- What holds of both holds of the chosen one.
 use mathlib.Core.Bool.{Bool, true, false}
 use Prim.Native.Nat.{ℕ, _≤_, _<_}
-use Rattle.numbers.specs.Choice.{if_then_else_, _≤?_}
+use Rattle.numbers.specs.Choice.{if_then_else_}
 use Rattle.numbers.specs.Unsigned.{least}
 use native.Mathlib.Nat.{le-refl}
 use native.Mathlib.Omega.{arith}

@@ -1,6 +1,6 @@
 -- A left shift and a right shift by one count cut a number to the bits that are left.
 use mathlib.Core.Path.{_≡_, refl, sym, ap, _∙_, subst}
-use mathlib.Core.Bool.{Bool, true, false, _&&_}
+use mathlib.Core.Bool.{Bool, true}
 use Prim.Native.Nat.{ℕ, zero, suc, _+_, _*_, _-_, _/_, _%_, _^_, _≤_, _<_}
 use native.Mathlib.Nat.{mul-lt-mul-of-pos-right, mul-le-mul-right, mul-div-cancel, mul-mod-left, add-mul, mod-lt, div-add-mod', mul-comm, div-lt-iff-lt-mul, add-zero, zero-mul, mul-zero}
 use native.Mathlib.Omega.{arith}

@@ -3,7 +3,7 @@
 use mathlib.Core.Path.{_≡_, refl, sym, ap, _∙_, subst}
 use mathlib.Core.Bool.{Bool, true, false, cond, _&&_}
 use Prim.Native.Nat.{ℕ, zero, suc, _+_, _*_, _-_, _/_, _^_, _≤_, _<_}
-use native.Mathlib.Nat.{le-refl, le-trans, lt-of-le-of-lt, mul-le-mul, mul-zero, add-mul, div-zero, div-mul-le-self, le-div-iff-mul-le}
+use native.Mathlib.Nat.{le-refl, le-trans, lt-of-le-of-lt, mul-le-mul, zero-mul, mul-add, div-zero, div-mul-le-self, le-div-iff-mul-le}
 use native.Mathlib.Omega.{arith}
 use lib.Dec.{T, ltb, ltb→lt, leb, leb→le}
 use lib.IntN.{ℤ, pos, negsuc, negℤ, natAbs, _+ℤ_, _-ℤ_, _*ℤ_}
@@ -43,10 +43,10 @@ mag-mul (negsuc a) (pos b) = let h : suc a * b ≤ suc a * suc b = mul-le-mul (l
 mag-mul (negsuc a) (negsuc b) = le-refl (suc a * suc b)
 
 -- by a number that is not negative: exact at both ends
-mag-times : (x : ℤ) (n : ℕ) → mag (x *ℤ pos n) ≤ suc (mag x) * n - 1
-mag-times (pos a) zero = omega (arith, mul-zero a)
-mag-times (pos a) (suc n) = omega (arith, add-mul a 1 (suc n))
-mag-times (negsuc a) n = mag-neg (suc a * n)
+mag-times : (n : ℕ) (x : ℤ) → mag (pos n *ℤ x) ≤ n * suc (mag x) - 1
+mag-times zero (pos a) = omega (arith, zero-mul a)
+mag-times (suc n) (pos a) = omega (arith, mul-add (suc n) a 1)
+mag-times n (negsuc a) = mag-neg (n * suc a)
 
 div-mono : (m : ℕ) {a b : ℕ} → a ≤ b → a / m ≤ b / m
 div-mono zero {a} {b} h = subst (λ (n : ℕ). n ≤ b / zero) (sym (div-zero a)) (omega arith)
@@ -73,8 +73,8 @@ sub-law x y m n p q t = omega (arith, mag-sub x y)
 pub mul-law : Law2 _*ℤ_ (λ m n. suc m * suc n) (λ m n. true)
 mul-law x y m n p q t = le-trans (mag-mul x y) (mul-le-mul (omega arith) (omega arith))
 
-pub times-law : (n : ℕ) → Law1 (λ x. x *ℤ pos n) (λ x. x *ℤ pos n) (λ m. suc m * n - 1) (λ m. true)
-times-law n x m p t = (refl, (let q : suc (mag x) * n ≤ suc m * n = mul-le-mul (omega arith) (le-refl n) in omega (arith, mag-times x n)))
+pub times-law : (n : ℕ) → Law1 (λ x. pos n *ℤ x) (λ x. pos n *ℤ x) (λ m. n * suc m - 1) (λ m. true)
+times-law n x m p t = (refl, (let q : n * suc (mag x) ≤ n * suc m = mul-le-mul (le-refl n) (omega arith) in omega (arith, mag-times n x)))
 
 pub shr-law : (k : ℕ) → Law1 (λ x. shrZ x k) (λ x. shrZ x k) (λ m. m / k) (λ m. true)
 shr-law k x m p t = (refl, rw mag-shr (div-mono k p))
@@ -174,8 +174,8 @@ q-sub p q = q-2 _-ℤ_ (λ m n. suc (m + n)) (λ m n. true) sub-law p q
 abbrev pub q-mul : {a b : ℤ} → Q a → Q b → Q (a *ℤ b)
 q-mul p q = q-2 _*ℤ_ (λ m n. suc m * suc n) (λ m n. true) mul-law p q
 
-abbrev pub q-times : {a : ℤ} (n : ℕ) → T (leb n 2147483647) → Q a → Q (a *ℤ pos n)
-q-times n l p = q-1 (λ x. x *ℤ pos n) (λ x. x *ℤ pos n) (λ m. suc m * n - 1) (λ m. true) (times-law n) p
+abbrev pub q-times : {a : ℤ} (n : ℕ) → T (leb n 2147483647) → Q a → Q (pos n *ℤ a)
+q-times n l p = q-1 (λ x. pos n *ℤ x) (λ x. pos n *ℤ x) (λ m. n * suc m - 1) (λ m. true) (times-law n) p
 
 abbrev pub q-shr : {a : ℤ} (k : ℕ) → Q a → Q (shrZ a k)
 q-shr k p = q-1 (λ x. shrZ x k) (λ x. shrZ x k) (λ m. m / k) (λ m. true) (shr-law k) p
@@ -193,6 +193,13 @@ q-unsigned w w′ n f = q-read w (q-nat w′ n f)
 -- what equals a formula, as a call's result does; a local of a loop, whose invariant says of what it holds the bits
 abbrev pub q-by : {r z : ℤ} → r ≡ z → Q z → Q r
 q-by e q = record { value = q .value; bound = q .bound; ok = q .ok; is = λ t. e ∙ q .is t; within = λ t. q .within t }
+
+-- a call's result that its type bounds, whatever bound the formula has
+pub value-below : {r : ℤ} (m : ℕ) (q : Q r) → T (q .ok) → mag r < m → mag (q .value) ≤ m - 1
+value-below m q t h = below-within m (q .value) (subst (λ (x : ℤ). mag x < m) (q .is t) h)
+
+abbrev pub q-call : (m : ℕ) {r z : ℤ} → r ≡ z → mag r < m → Q z → Q r
+q-call m e h q = record { value = q .value; bound = m - 1; ok = q .ok; is = λ t. e ∙ q .is t; within = λ t. value-below m (q-by e q) t h }
 
 abbrev pub q-local : (w : Width) {b : ℕ} {a : ℤ} → b ≡ ofZ w a → Q a → Q (toZ w b)
 q-local w e p = q-by (λ i. toZ w (e i)) (q-read w p)

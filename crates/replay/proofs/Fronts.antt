@@ -11,6 +11,7 @@ use borrow.Author.Count.{below-more}
 use Rattle.replay.specs.Leaves.{sizeOf, checkOf}
 use Rattle.replay.specs.Parts.{handedTo, checkAt, IsFront}
 use Rattle.replay.specs.declared.leaves.Leaf.{Leaf}
+use Rattle.replay.specs.declared.records.Carry.{Carry}
 use Rattle.replay.specs.declared.records.Checked.{Checked}
 
 pub added : (a n : ℕ) → a + n - a ≡ n
@@ -24,9 +25,9 @@ room k n m h = let l : suc k * n ≤ m / n * n = mul-le-mul-right n h in omega (
 pub upto : (a n m : ℕ) (xs : List ℕ) → a ≤ length (take n xs) / m → a ≤ n
 upto a n m xs h = omega (arith, length-take n xs, div-le-self (length (take n xs)) m)
 
-module _ (leaf : Leaf) (part : List ℕ) (carry : ℕ) where
+module _ (leaf : Leaf) (part : List ℕ) (carry : Carry) where
   -- k records are equal, and h is handed to the next
-  pub record UpTo (k h : ℕ) : Type 0 where
+  pub record UpTo (k : ℕ) (h : Carry) : Type 0 where
     pub before : (j : ℕ) → j < k → checkAt leaf part carry j .equal ≡ true
     pub handed : h ≡ handedTo leaf part carry k
 
@@ -34,7 +35,7 @@ module _ (leaf : Leaf) (part : List ℕ) (carry : ℕ) where
   unfolding handedTo
   none = record { before = λ j l. absurd (omega arith); handed = refl }
 
-  module _ (k h n : ℕ) (r : Checked) (e : n ≡ sizeOf leaf) (u : UpTo k h)
+  module _ (k : ℕ) (h : Carry) (n : ℕ) (r : Checked) (e : n ≡ sizeOf leaf) (u : UpTo k h)
       (c : r ≡ checkOf leaf (take (k * n + n - k * n) (drop (k * n) part)) h) where
     is : r ≡ checkAt leaf part carry k
     unfolding checkAt
@@ -57,7 +58,7 @@ module _ (leaf : Leaf) (part : List ℕ) (carry : ℕ) where
           handed = u .handed;
         }
 
-  pub ends : (k h n : ℕ) → n ≡ sizeOf leaf → UpTo k h → k ≤ length part / n → length part / n ≤ k
+  pub ends : (k : ℕ) (h : Carry) (n : ℕ) → n ≡ sizeOf leaf → UpTo k h → k ≤ length part / n → length part / n ≤ k
       → IsFront leaf part carry (record { equal = k; carry = h })
   ends k h n e u l g =
       let d = ap (λ (m : ℕ). length part / m) e in

@@ -1,3 +1,2 @@
 pub mod Compared
 pub mod Fronts
-pub mod Sizes

@@ -3,21 +3,35 @@ use mathlib.Core.Bool.{Bool}
 use mathlib.Core.List.{List}
 use Prim.Native.Nat.{ℕ}
 use Rattle.dsp.specs.Brr.{decodeNibble}
+use Rattle.dsp.specs.Machine.{newDsp}
 use Rattle.replay.specs.Records.{byteAt, i8At, i16At, _=ℤ?_}
+use Rattle.replay.specs.Block.{blockEqual}
+use Rattle.replay.specs.Interpolation.{interpolationEqual}
+use Rattle.replay.specs.Envelope.{envelopeEqual}
+use Rattle.replay.specs.Noise.{carryOf, noiseCheck}
 use Rattle.replay.specs.declared.leaves.Leaf.{Leaf}
-use Rattle.replay.specs.declared.leaves.Leaf.the-variants.{Nibble}
+use Rattle.replay.specs.declared.leaves.Leaf.the-variants.{Nibble, Block, Interpolation, Envelope, Noise}
+use Rattle.replay.specs.declared.records.Carry.{Carry}
 use Rattle.replay.specs.declared.records.Checked.{Checked}
 
 abbrev pub sizeOf : Leaf → ℕ
 sizeOf Nibble = 9
+sizeOf Block = 52
+sizeOf Interpolation = 12
+sizeOf Envelope = 16
+sizeOf Noise = 3
 
 -- what the first record is handed
-abbrev pub startOf : Leaf → ℕ
-startOf Nibble = 0
+abbrev pub started : Carry
+started = carryOf newDsp
 
 -- nibble, shift, filter, prev1, prev2 | sample
 unfoldable pub nibbleEqual : List ℕ → Bool
 nibbleEqual r = decodeNibble (i8At r 0) (byteAt r 1) (byteAt r 2) (i16At r 3) (i16At r 5) =ℤ? i16At r 7
 
-abbrev pub checkOf : Leaf → List ℕ → ℕ → Checked
+abbrev pub checkOf : Leaf → List ℕ → Carry → Checked
 checkOf Nibble r carry = record { equal = nibbleEqual r; carry = carry }
+checkOf Block r carry = record { equal = blockEqual r; carry = carry }
+checkOf Interpolation r carry = record { equal = interpolationEqual r; carry = carry }
+checkOf Envelope r carry = record { equal = envelopeEqual r; carry = carry }
+checkOf Noise r carry = noiseCheck r carry

@@ -6,15 +6,16 @@ use Prim.Native.Nat.{ℕ, zero, suc, _*_, _/_, _≤_, _<_}
 use lib.ListN.{length, take, drop}
 use Rattle.replay.specs.Leaves.{sizeOf, checkOf}
 use Rattle.replay.specs.declared.leaves.Leaf.{Leaf}
+use Rattle.replay.specs.declared.records.Carry.{Carry}
 use Rattle.replay.specs.declared.records.Checked.{Checked}
 use Rattle.replay.specs.declared.parts.Front.{Front}
 
 abbrev pub recordAt : Leaf → List ℕ → ℕ → List ℕ
 recordAt leaf part k = take (sizeOf leaf) (drop (k * sizeOf leaf) part)
 
-module _ (leaf : Leaf) (part : List ℕ) (carry : ℕ) where
+module _ (leaf : Leaf) (part : List ℕ) (carry : Carry) where
   -- what record k is handed
-  unfoldable pub handedTo : ℕ → ℕ
+  unfoldable pub handedTo : ℕ → Carry
   handedTo zero = carry
   handedTo (suc k) = checkOf leaf (recordAt leaf part k) (handedTo k) .carry
 

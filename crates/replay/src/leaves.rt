@@ -2,15 +2,21 @@
 ghost use mathlib.Core.Path.{_≡_};
 ghost use Prim.Native.Nat.{_≤_, _<_};
 ghost use lib.ListN.{length};
-ghost use Rattle.replay.specs.Leaves.{sizeOf, startOf, nibbleEqual, checkOf};
+ghost use Rattle.replay.specs.Leaves.{sizeOf, started, nibbleEqual, checkOf};
+use crate::records::Carry;
 use crate::records::Checked;
 use crate::records::byte_at;
 use crate::records::i8_at;
 use crate::records::i16_at;
 use crate::records::is_i16_at;
+use dsp::Dsp;
 
 pub enum Leaf {
     Nibble,
+    Block,
+    Interpolation,
+    Envelope,
+    Noise,
 }
 
 pub fn size(leaf: Leaf) -> usize
@@ -18,15 +24,21 @@ pub fn size(leaf: Leaf) -> usize
 {
     match leaf {
         Leaf::Nibble => 9,
+        Leaf::Block => 52,
+        Leaf::Interpolation => 12,
+        Leaf::Envelope => 16,
+        Leaf::Noise => 3,
     }
 }
 
-// What the first record is handed.
-pub fn start(leaf: Leaf) -> u32
-    ensures { λ r. ⌜ r ≡ startOf leaf ⌝ }
+// What the first record is handed: the noise of `new`.
+pub fn start() -> Carry
+    ensures { λ r. ⌜ r ≡ started ⌝ }
 {
-    match leaf {
-        Leaf::Nibble => 0,
+    let d = Dsp::new();
+    Carry {
+        lfsr: d.noise_lfsr,
+        counter: d.noise_tick_counter,
     }
 }
 
@@ -45,7 +57,7 @@ fn nibble(bytes: &[u8]) -> bool
     is_i16_at(sample, bytes, 7)
 }
 
-pub fn check(leaf: Leaf, bytes: &[u8], carry: u32) -> Checked
+pub fn check(leaf: Leaf, bytes: &[u8], carry: Carry) -> Checked
     requires { ⌜ length (now bytes) ≡ sizeOf leaf ⌝ }
     ensures { λ r. ⌜ r ≡ checkOf leaf (now (bytes .entry)) carry ⌝ }
 {
@@ -54,5 +66,18 @@ pub fn check(leaf: Leaf, bytes: &[u8], carry: u32) -> Checked
             equal: nibble(bytes),
             carry,
         },
+        Leaf::Block => Checked {
+            equal: crate::block::equal(bytes),
+            carry,
+        },
+        Leaf::Interpolation => Checked {
+            equal: crate::interpolation::equal(bytes),
+            carry,
+        },
+        Leaf::Envelope => Checked {
+            equal: crate::envelope::equal(bytes),
+            carry,
+        },
+        Leaf::Noise => crate::noise::checked(bytes, carry),
     }
 }

@@ -6,6 +6,7 @@ use crate::leaves::Leaf;
 use crate::leaves::check;
 use crate::leaves::size;
 use crate::leaves::start;
+use crate::records::Carry;
 
 // A file may have no end, as a device has none: no more parts than these are read.
 const PARTS_MOST: usize = 1000;
@@ -24,7 +25,7 @@ pub enum Outcome {
 // The records at the front of a part that are equal, and what the last of them hands on.
 pub struct Front {
     pub equal: usize,
-    pub carry: u32,
+    pub carry: Carry,
 }
 
 pub struct Part {
@@ -32,7 +33,7 @@ pub struct Part {
     pub front: Front,
 }
 
-fn front_of(leaf: Leaf, part: &[u8], carry: u32) -> Front
+fn front_of(leaf: Leaf, part: &[u8], carry: Carry) -> Front
     ensures { λ r. ⌜ IsFront leaf (now (part .entry)) carry r ⌝ }
 {
     let n = size(leaf);
@@ -65,7 +66,7 @@ fn part_size(leaf: Leaf) -> usize
     PART_MOST / n * n
 }
 
-fn read_part(fd: i32, leaf: Leaf, carry: u32) -> Part
+fn read_part(fd: i32, leaf: Leaf, carry: Carry) -> Part
     ensures { λ r. ⌜ (r .bytes ≤ 0x10000) × (r .front .equal ≤ r .bytes) ⌝ }
 {
     let mut buffer = io::large_buffer();
@@ -85,7 +86,7 @@ pub fn replay(fd: i32, leaf: Leaf) -> Outcome {
     let n = size(leaf);
     let most = part_size(leaf);
     let mut equal: u64 = 0;
-    let mut carry = start(leaf);
+    let mut carry = start();
     let mut parts: usize = 0;
     while parts < PARTS_MOST {
         let p = read_part(fd, leaf, carry);

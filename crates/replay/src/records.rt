@@ -4,10 +4,15 @@ ghost use Prim.Native.Nat.{_+_, _<_};
 ghost use lib.ListN.{length};
 ghost use Rattle.replay.specs.Records.{byteAt, u16At, i8At, i16At, _=ℤ?_};
 
-// Whether a record is equal, and what it hands on to the next one of its file: a leaf may have a state.
+// What a record hands on to the next one of its file: the noise, which alone has a state.
+pub struct Carry {
+    pub lfsr: u16,
+    pub counter: u16,
+}
+
 pub struct Checked {
     pub equal: bool,
-    pub carry: u32,
+    pub carry: Carry,
 }
 
 pub fn byte_at(bytes: &[u8], i: usize) -> u8

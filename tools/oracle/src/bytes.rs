@@ -27,11 +27,25 @@ impl Bytes {
     }
 }
 
-/// FNV-1a, 64 bits.
+/// FNV-1a, 64 bits, of the bytes so far.
+pub struct Digest(pub u64);
+
+impl Digest {
+    pub fn new() -> Self {
+        Digest(0xCBF2_9CE4_8422_2325)
+    }
+
+    pub fn bytes(&mut self, bytes: &[u8]) {
+        for byte in bytes {
+            self.0 = (self.0 ^ u64::from(*byte)).wrapping_mul(0x0000_0100_0000_01B3);
+        }
+    }
+}
+
 pub fn digest(bytes: &[u8]) -> u64 {
-    bytes.iter().fold(0xCBF2_9CE4_8422_2325, |sum, byte| {
-        (sum ^ u64::from(*byte)).wrapping_mul(0x0000_0100_0000_01B3)
-    })
+    let mut sum = Digest::new();
+    sum.bytes(bytes);
+    sum.0
 }
 
 #[cfg(test)]

@@ -3,8 +3,11 @@
 use apu::dsp::Dsp;
 use apu::memory::RawARAM;
 
-use crate::bytes::{digest, Bytes};
+use crate::bytes::{digest, Bytes, Digest};
 use crate::log::{self, Record, Refusal};
+
+/// Left and right, 16 bits each.
+const SAMPLE_SIZE: usize = 4;
 
 /// All that a run leaves behind.
 pub struct Outcome {
@@ -15,6 +18,8 @@ pub struct Outcome {
     pub ram: Box<RawARAM>,
     /// Left, right, 16 bits, low byte first.
     pub pcm: Vec<u8>,
+    /// Digest of, tick by tick, the 128 registers after it and its sample.
+    pub trace: u64,
 }
 
 /// Checks RAM, then the log, then runs it (document 01's order).
@@ -26,6 +31,7 @@ pub fn run(log: &[u8], ram: Vec<u8>) -> Result<Outcome, Refusal> {
     let mut readings = Vec::new();
     let mut ticks = 0;
     let mut pcm = Bytes::new();
+    let mut trace = Digest::new();
     for record in records {
         match record {
             Record::Write { register, value } => dsp.write_reg(register, value),
@@ -34,19 +40,25 @@ pub fn run(log: &[u8], ram: Vec<u8>) -> Result<Outcome, Refusal> {
                 ticks += usize::from(count);
                 for _ in 0..count {
                     tick(&mut dsp, &mut ram, &mut pcm);
+                    trace.bytes(&registers(&dsp));
+                    trace.bytes(&pcm.0[pcm.0.len() - SAMPLE_SIZE..]);
                 }
             }
             Record::End => {}
         }
     }
-    let registers = (0..0x80).map(|register| dsp.read_reg(register)).collect();
     Ok(Outcome {
         readings,
         ticks,
-        registers,
+        registers: registers(&dsp),
         ram,
         pcm: pcm.0,
+        trace: trace.0,
     })
+}
+
+fn registers(dsp: &Dsp) -> Vec<u8> {
+    (0..0x80).map(|register| dsp.read_reg(register)).collect()
 }
 
 /// A tick is `step`, then `render_audio_single`.

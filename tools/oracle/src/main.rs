@@ -6,6 +6,7 @@ use std::io::{self, Write};
 use std::process::ExitCode;
 
 mod bytes;
+mod cases;
 mod chip;
 mod leaves;
 mod log;
@@ -13,9 +14,11 @@ mod make;
 mod random;
 mod registers;
 mod selfcheck;
+mod trace;
 
 const USAGE: &str = "usage: oracle nibble | block | interpolate | envelope | noise | selfcheck \
-    | run LOG RAM [PCM_OUT [RAM_OUT]] | make KIND SEED LOG_OUT RAM_OUT";
+    | run LOG RAM [PCM_OUT [RAM_OUT]] | make KIND SEED LOG_OUT RAM_OUT \
+    | trace CASES FOLDER | cases KIND COUNT SEED OUTFOLDER";
 
 fn main() -> ExitCode {
     let words: Vec<String> = std::env::args().skip(1).collect();
@@ -42,6 +45,8 @@ fn command(words: &[&str]) -> Result<(), String> {
         }
         ["run", log, ram, outputs @ ..] if outputs.len() <= 2 => run(log, ram, outputs),
         ["make", kind, seed, log, ram] => make(kind, seed, log, ram),
+        ["trace", cases, folder] => trace(cases, folder),
+        ["cases", kind, count, seed, folder] => cases(kind, count, seed, folder),
         _ => Err(USAGE.to_string()),
     }
 }
@@ -55,6 +60,24 @@ fn run(log: &str, ram: &str, outputs: &[&str]) -> Result<(), String> {
         }
     }
     print(chip::report(&result).as_bytes())
+}
+
+fn trace(cases: &str, folder: &str) -> Result<(), String> {
+    let cases = cases::read(&read(cases)?)?;
+    let text = trace::report(&cases, |image| read_ram(&cases::ram_path(folder, image)))?;
+    print(text.as_bytes())
+}
+
+/// Prints what each case is called, if it has a name.
+fn cases(kind: &str, count: &str, seed: &str, folder: &str) -> Result<(), String> {
+    let count = count.parse().map_err(|_| format!("{count} is no count"))?;
+    let seed = seed.parse().map_err(|_| format!("{seed} is no seed"))?;
+    let made = make::cases::cases(kind, count, seed)?;
+    write(&format!("{folder}/cases"), &cases::bytes(&made.cases))?;
+    for (image, ram) in (0..).zip(&made.rams) {
+        write(&cases::ram_path(folder, image), ram)?;
+    }
+    print(made.names.as_bytes())
 }
 
 fn make(kind: &str, seed: &str, log: &str, ram: &str) -> Result<(), String> {

@@ -1,7 +1,9 @@
 //! Random logs and RAM images, from a kind and a seed.
 
 mod bank;
+pub mod cases;
 mod damage;
+mod directed;
 mod limits;
 mod plain;
 mod scenes;

@@ -2,6 +2,8 @@
 
 pub const VOL_LEFT: u8 = 0x0;
 pub const VOL_RIGHT: u8 = 0x1;
+pub const PITCH_LOW: u8 = 0x2;
+pub const PITCH_HIGH: u8 = 0x3;
 pub const SRCN: u8 = 0x4;
 pub const ADSR1: u8 = 0x5;
 pub const ADSR2: u8 = 0x6;

@@ -72,7 +72,7 @@ fn header(random: &mut Random) -> u8 {
     (shift << 4 | random.below(4) << 2) as u8
 }
 
-fn put_word(ram: &mut [u8], addr: u16, value: u16) {
+pub fn put_word(ram: &mut [u8], addr: u16, value: u16) {
     let [low, high] = value.to_le_bytes();
     ram[usize::from(addr)] = low;
     ram[usize::from(addr.wrapping_add(1))] = high;

@@ -13,10 +13,15 @@ const RECORDS_USUAL: usize = 12_000;
 /// A log of exactly this many ticks, with its end record, and its RAM.
 pub fn plain(random: &mut Random, ticks: usize) -> (Vec<Record>, Vec<u8>) {
     let bank = bank::bank(random);
+    (records(random, bank.dir, ticks), bank.ram)
+}
+
+/// The same for a RAM image that is there already.
+pub fn records(random: &mut Random, dir: u8, ticks: usize) -> Vec<Record> {
     let loud = random.once_in(2);
     let mut log = Plain {
         random,
-        dir: bank.dir,
+        dir,
         loud,
         left: ticks,
         records: Vec::new(),
@@ -30,7 +35,7 @@ pub fn plain(random: &mut Random, ticks: usize) -> (Vec<Record>, Vec<u8>) {
     }
     log.read(ENDX);
     log.records.push(Record::End);
-    (log.records, bank.ram)
+    log.records
 }
 
 pub struct Plain<'a> {

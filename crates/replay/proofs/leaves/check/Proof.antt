@@ -1,23 +1,39 @@
--- By the leaf.
-use mathlib.Core.Bool.{Bool}
+-- By the leaf, whose equation turns its size and its check into the definition's.
+use borrow.Author.Needs.{needs}
+use mathlib.Core.Path.{_≡_, sym, ap, _∙_}
 use mathlib.Core.List.{List}
-use mathlib.Core.Path.{_≡_, _∙_}
+use mathlib.Core.Bool.{Bool}
 use Prim.Native.Nat.{ℕ}
-use Rattle.replay.specs.Leaves.{checkOf, nibbleEqual}
+use Rattle.replay.specs.Leaves.{sizeOf, checkOf}
 use Rattle.replay.specs.declared.leaves.Leaf.{Leaf}
-use Rattle.replay.specs.declared.leaves.Leaf.the-variants.{Nibble}
+use Rattle.replay.specs.declared.records.Carry.{Carry}
 use Rattle.replay.specs.declared.records.Checked.{Checked}
-use Rattle.replay.proofs.Sizes.{nine}
 use Rattle.replay.proofs.leaves.check.Statement.{statement}
 use Rattle.replay.proofs.leaves.check.Tie as tie
 
-checked : (leaf : Leaf) (bytes : List ℕ) (carry : ℕ) (equal : Bool) → equal ≡ nibbleEqual bytes
-    → _≡_ {A = Checked} (record { equal = equal; carry = carry }) (checkOf leaf bytes carry)
-checked Nibble bytes carry equal e = λ i. record { equal = e i; carry = carry }
+at : {leaf known : Leaf} {x : Checked} (bytes : List ℕ) (carry : Carry) → leaf ≡ known → x ≡ checkOf known bytes carry
+    → x ≡ checkOf leaf bytes carry
+at bytes carry e d = d ∙ ap (λ (l : Leaf). checkOf l bytes carry) (sym e)
+
+stateless : {equal test : Bool} (carry : Carry) → equal ≡ test → _≡_ {A = Checked} (record { equal = equal; carry = carry }) (record { equal = test; carry = carry })
+stateless carry e = λ i. record { equal = e i; carry = carry }
 
 pub check-spec : {M : Type 1} → statement M
 check-spec =
     tie.close
     (tie.spec
-    (λ c κs. c .before .pre ∙ nine (c .before .args .leaf))
-    (λ c. checked (c .before .before .args .leaf) _ _ _ (c .nibble .ensures)))
+    (λ c. search needs)
+    (λ c κs. c .before .before .before .pre ∙ ap sizeOf (c .enum-told .given .1))
+    (λ c. search needs)
+    (λ c κs. c .before .before .before .pre ∙ ap sizeOf (c .enum-told2 .given .1))
+    (λ c. search needs)
+    (λ c κs. c .before .before .before .pre ∙ ap sizeOf (c .enum-told3 .given .1))
+    (λ c. search needs)
+    (λ c κs. c .before .before .before .pre ∙ ap sizeOf (c .enum-told4 .given .1))
+    (λ c. search needs)
+    (λ c κs. c .before .before .before .pre ∙ ap sizeOf (c .enum-told5 .given .1))
+    (λ c. at _ _ (c .before .enum-told .given .1) (stateless _ (c .nibble .ensures)))
+    (λ c. at _ _ (c .before .enum-told2 .given .1) (stateless _ (c .equal .ensures)))
+    (λ c. at _ _ (c .before .enum-told3 .given .1) (stateless _ (c .equal2 .ensures)))
+    (λ c. at _ _ (c .before .enum-told4 .given .1) (stateless _ (c .equal3 .ensures)))
+    (λ c. at _ _ (c .before .enum-told5 .given .1) (c .checked .ensures)))

@@ -11,15 +11,15 @@ use Rattle.replay.proofs.parts.front_of.Statement.{statement}
 use Rattle.replay.proofs.parts.front_of.Tie as tie
 
 abbrev Inv-loop : tie.InvT-loop
-Inv-loop leaf part carry n count equal₀ handed₀ equal handed = (equal ≤ count) × UpTo leaf part carry equal handed
+Inv-loop leaf part n count equal₀ handed₀ equal handed = (equal ≤ count) × UpTo leaf part handed₀ equal handed
 
 abbrev μ-loop : tie.MeasureT-loop
-μ-loop leaf part carry n count equal₀ handed₀ equal handed = count - equal
+μ-loop leaf part n count equal₀ handed₀ equal handed = count - equal
 
 add-equal : tie.Need-add-equal Inv-loop μ-loop
 add-equal c =
-    let part = c .before .before .before .before .before .before .before .before .args .part .now in
-    record { fits = omega (arith, div-le-self (length part) (c .before .before .before .before .before .before .size .result)) }
+    let part = c .before .before .before .before .before .before .before .before .before .args .part .now in
+    record { fits = omega (arith, div-le-self (length part) (c .before .before .before .before .before .before .before .size .result)) }
 
 pub front-of-spec : {M : Type 1} → statement M
 front-of-spec =
@@ -39,5 +39,5 @@ front-of-spec =
     (λ c. stops _ _ _ _ _ _ _ (c .before .before .before .before .before .before .size .ensures .0) (c .before .before .before .before .before .loop .inv .1) (c .before .before .check .ensures) (c .before .before .before .before .loop-test .taken) (not-true _ (c .if1 .taken)))
     add-equal
     (λ c. search needs)
-    (λ c. (search needs, one-more _ _ _ _ _ _ _ (c .before .before .before .before .before .before .size .ensures .0) (c .before .before .before .before .before .loop .inv .1) (c .before .before .check .ensures) (not-false _ (c .if1 .left))))
+    (λ c. (search needs, one-more _ _ _ _ _ _ _ (c .before .before .before .before .before .before .before .size .ensures .0) (c .before .before .before .before .before .before .loop .inv .1) (c .before .before .before .check .ensures) (not-false _ (c .before .if1 .left))))
     (λ c. ends _ _ _ _ _ _ (c .before .before .size .ensures .0) (c .before .loop .inv .1) (c .before .loop .inv .0) (c .loop-test .left)))

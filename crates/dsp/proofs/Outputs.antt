@@ -1,0 +1,27 @@
+-- A product with a level of at most $800 is bounded exactly, so that it has 16 bits after the shift by 11. A side of the sample is read back from its bits.
+use mathlib.Core.Path.{_≡_, _∙_, ap, subst}
+use mathlib.Core.Bool.{true}
+use Prim.Native.Nat.{ℕ, suc, _*_, _-_, _≤_, _<_}
+use native.Mathlib.Nat.{mul-le-mul, le-refl}
+use native.Mathlib.Omega.{arith}
+use lib.IntN.{ℤ, pos, _*ℤ_, *ℤ-comm}
+use lib.Signed.{mag}
+use mir.Syntax.{w8, w16, w32}
+use mir.Val.{toZ, ofZ}
+use mir.ValLaws.{toZ-pos}
+use Rattle.numbers.proofs.Range.{Q, q-1, Law1, times-law, landed}
+use Rattle.sound.specs.Sound.{mastered}
+
+pub level-law : (n : ℕ) → n ≤ 0x800 → Law1 (λ x. x *ℤ toZ w32 n) (λ x. x *ℤ pos n) (λ m. 0x800 * suc m - 1) (λ m. true)
+level-law n l x m p t =
+    let h : n * suc m ≤ 0x800 * suc m = mul-le-mul l (le-refl (suc m)) in
+    (ap (λ (z : ℤ). x *ℤ z) (toZ-pos w32 n (omega arith)), subst (λ (z : ℤ). mag z ≤ 0x800 * suc m - 1) (*ℤ-comm (pos n) x) (omega (arith, times-law n x m p tt .1)))
+
+abbrev pub q-level : {a : ℤ} (n : ℕ) → n ≤ 0x800 → Q a → Q (a *ℤ toZ w32 n)
+q-level n l p = q-1 (λ x. x *ℤ toZ w32 n) (λ x. x *ℤ pos n) (λ m. 0x800 * suc m - 1) (λ m. true) (level-law n l) p
+
+pub side-lands : (x dry master echo volume : ℤ) → mag x < 0x8000 → mag dry < 0x8000 → mag master < 0x80 → mag echo < 0x8000 → mag volume < 0x80
+    → x ≡ mastered (toZ w16 (ofZ w16 dry)) (toZ w8 (ofZ w8 master)) (toZ w16 (ofZ w16 echo)) (toZ w8 (ofZ w8 volume))
+    → toZ w16 (ofZ w16 x) ≡ mastered dry master echo volume
+side-lands x dry master echo volume hx hd hm he hv p =
+    landed w16 hx ∙ p ∙ (λ i. mastered (landed w16 {z = dry} hd i) (landed w8 {z = master} hm i) (landed w16 {z = echo} he i) (landed w8 {z = volume} hv i))

@@ -1,0 +1,21 @@
+-- What turns and stores into a list keep.
+use mathlib.Core.List.{List, [], _∷_}
+use Prim.Native.Nat.{ℕ, zero, suc, _≤_, _<_}
+use native.Mathlib.Omega.{arith}
+use lib.ListN.{getD, set}
+use Rattle.dsp.specs.Registers.{turns}
+
+-- of the first k turns, what each of them keeps
+pub turns-keep : {A : Type 0} (P : A → Type 0) (f : ℕ → A → A) (k : ℕ) → ((n : ℕ) (a : A) → n < k → P a → P (f n a))
+    → (n : ℕ) (a : A) → n ≤ k → P a → P (turns f n a)
+unfolding turns
+turns-keep P f k h zero a l p = p
+turns-keep P f k h (suc n) a l p = h n (turns f n a) (omega arith) (turns-keep P f k h n a (omega arith) p)
+
+-- of the element at m, what it and the new one have in common; past the end nothing is stored
+pub set-keeps : {A : Type 0} (P : A → Type 0) (d : A) (xs : List A) (n : ℕ) (w : A) → P w → (m : ℕ) → P (getD xs m d) → P (getD (set xs n w) m d)
+set-keeps P d [] n w p m h = h
+set-keeps P d (x ∷ xs) zero w p zero h = p
+set-keeps P d (x ∷ xs) zero w p (suc m) h = h
+set-keeps P d (x ∷ xs) (suc n) w p zero h = h
+set-keeps P d (x ∷ xs) (suc n) w p (suc m) h = set-keeps P d xs n w p m h

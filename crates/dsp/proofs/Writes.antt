@@ -1,0 +1,95 @@
+-- Laws of register writes, by the kind of register.
+use mathlib.Core.Bool.{Bool, true, false, _||_}
+use mathlib.Core.List.{List, [], _∷_}
+use mathlib.Core.Path.{_≡_, refl}
+use Prim.Native.Nat.{ℕ, _/_, _%_, _≤_, _<_}
+use native.Mathlib.Decide.{decLe, ℕ-discrete}
+use native.Mathlib.Omega.{arith}
+use lib.IntN.{ℤ, pos}
+use lib.ListN.{getD, set}
+use lib.Dec.{eqb}
+use borrow.Author.Tests.{lt-ltb, le-ltb, le-leb, lt-leb, eq-eqb, ne-eqb}
+use Rattle.numbers.specs.Choice.{_=?_}
+use Rattle.numbers.specs.Signed.{cutZ}
+use Rattle.numbers.proofs.Choice.{chosen}
+use Rattle.dsp.specs.Machine.{noVoice, globOf, together}
+use Rattle.dsp.specs.Registers.{at, writeVoice, globWrite, endxWrite, writeParts, writeAt, putGlobal}
+use Rattle.dsp.specs.declared.voice.Voice.{Voice}
+use Rattle.dsp.specs.declared.registers.Dsp.{Dsp}
+use Rattle.dsp.specs.declared.registers.Glob.{Glob}
+
+-- ---- numbers that are none of a list
+
+abbrev pub NoneOf : List ℕ → ℕ → Type 0
+NoneOf [] i = Unit
+NoneOf (r ∷ rs) i = NoneOf rs i × (i ≡ r → ⊥)
+
+abbrev has : List ℕ → ℕ → Bool
+has [] r = false
+has (q ∷ rs) r = q =? r || has rs r
+
+pub none-eqb : (rs : List ℕ) (i : ℕ) → NoneOf rs i → (r : ℕ) → has rs r ≡ true → eqb i r ≡ false
+none-eqb [] i h r t = cc
+none-eqb (q ∷ rs) i h r t =
+    elim (ℕ-discrete q r) [
+      | yes e ↦ rw e at (ne-eqb i q (h .1))
+      | no e ↦ none-eqb rs i (h .0) r (rw (ne-eqb q r e) at t)
+    ]
+
+-- ---- the record's numbers
+
+-- the registers that stand for one of them, last first as the code lists them
+abbrev pub globals : List ℕ
+globals = 0x6C ∷ 0x7D ∷ 0x6D ∷ 0x4D ∷ 0x0D ∷ 0x3C ∷ 0x2C ∷ 0x2D ∷ 0x3D ∷ 0x5D ∷ 0x1C ∷ 0x0C ∷ 0x4C ∷ []
+
+pub glob-kept : (i x : ℕ) (g : Glob) → NoneOf globals i → globWrite i x g ≡ g
+glob-kept i x g h = let e = none-eqb globals i h in simp e
+
+-- $7C takes its byte as any register does
+pub endx-as-any : (i x : ℕ) → at i 0x7C (endxWrite x) x ≡ x
+endx-as-any i x = chosen (λ (y : ℕ). y ≡ x) (i =? 0x7C) refl refl
+
+-- ---- the three kinds of register
+
+-- d with the byte stored, and with these voices and taps
+abbrev stored : ℕ → ℕ → List Voice → List ℤ → Dsp → Dsp
+stored i x voices taps d =
+    together
+    (record {
+      registers = set (d .registers) i x;
+      voices = voices;
+      delays = d .«kon_delay»;
+      taps = taps;
+      left = d .«fir_history_l»;
+      right = d .«fir_history_r»;
+      glob = globOf d;
+    })
+
+pub voice-write : (i x : ℕ) (d : Dsp) → i % 16 < 8
+    → writeAt i x d ≡ stored i x (set (d .voices) (i / 16) (writeVoice (i % 16) x (getD (d .voices) (i / 16) noVoice))) (d .«fir_coeff») d
+unfolding writeAt writeParts
+voice-write i x d h =
+    let e = none-eqb globals i (omega arith) in
+    let f : i % 16 ≡ 15 → ⊥ = omega arith in
+    rw (lt-ltb _ _ h, ne-eqb _ _ f, endx-as-any) (simp e)
+
+pub tap-write : (i x : ℕ) (d : Dsp) → i % 16 ≡ 15
+    → writeAt i x d ≡ stored i x (d .voices) (set (d .«fir_coeff») (i / 16) (cutZ 0x80 (pos x))) d
+unfolding writeAt writeParts
+tap-write i x d h =
+    let e = none-eqb globals i (omega arith) in
+    let v : 8 ≤ i % 16 = omega arith in
+    rw (le-ltb _ _ v, eq-eqb _ _ h, endx-as-any) (simp e)
+
+pub global-write : (i x : ℕ) (d : Dsp) → 8 ≤ i % 16 → (i % 16 ≡ 15 → ⊥)
+    → writeAt i x d ≡ putGlobal i x (stored i x (d .voices) (d .«fir_coeff») d)
+unfolding writeAt writeParts
+global-write i x d v f =
+    elim (ℕ-discrete i 0x6C) [
+      | yes e ↦
+          elim (decLe 0x80 x) [
+            | yes l ↦ rw (le-ltb _ _ v, ne-eqb _ _ f, eq-eqb _ _ e, le-leb _ _ l)
+            | no l ↦ let k : x < 0x80 = omega arith in rw (le-ltb _ _ v, ne-eqb _ _ f, eq-eqb _ _ e, lt-leb _ _ k, endx-as-any)
+          ]
+      | no e ↦ rw (le-ltb _ _ v, ne-eqb _ _ f, ne-eqb _ _ e, endx-as-any)
+    ]

@@ -1,0 +1,52 @@
+-- The sums, with the read-backs removed.
+use borrow.Author.Needs.{needs}
+use mathlib.Core.Path.{_∙_, ap}
+use mir.Syntax.{w8, w16}
+use mir.ValLaws.{toZ-ofZ}
+use Rattle.sound.specs.Sound.{even}
+use Rattle.numbers.proofs.Range.{landed}
+use Rattle.dsp.specs.Mix.{heard}
+use Rattle.dsp.specs.Tick.{added}
+use Rattle.dsp.proofs.lane.Acc.added.Statement.{statement}
+use Rattle.dsp.proofs.lane.Acc.added.Tie as tie
+
+returns : tie.Need-returns
+unfolding added
+returns c =
+    let s = c .before .before .before .before .before .before in
+    let a = s .args in
+    let o = toZ-ofZ w16 (a .out) (s .fits .out) in
+    let l = toZ-ofZ w8 (a .left) (s .fits .left) in
+    let r = toZ-ofZ w8 (a .right) (s .fits .right) in
+    rw (c .before .before .if1 .taken)
+    (λ i. record {
+      prev = (landed w16 (c .even .ok) ∙ c .even .ensures ∙ ap even o) i;
+      dry = (c .before .before .before .before .heard .ensures ∙ (λ k. heard (o k) (l k) (r k) (a .self .dry))) i;
+      input = (c .before .heard2 .ensures ∙ (λ k. heard (o k) (l k) (r k) (a .self .input))) i;
+    })
+
+returns-2 : tie.Need-returns-2
+unfolding added
+returns-2 c =
+    let s = c .before .before .before .before .before in
+    let a = s .args in
+    let o = toZ-ofZ w16 (a .out) (s .fits .out) in
+    let l = toZ-ofZ w8 (a .left) (s .fits .left) in
+    let r = toZ-ofZ w8 (a .right) (s .fits .right) in
+    rw (c .before .if1 .left)
+    (λ i. record {
+      prev = (landed w16 (c .even2 .ok) ∙ c .even2 .ensures ∙ ap even o) i;
+      dry = (c .before .before .before .heard .ensures ∙ (λ k. heard (o k) (l k) (r k) (a .self .dry))) i;
+      input = a .self .input;
+    })
+
+pub added-spec : {M : Type 1} → statement M
+added-spec =
+    tie.close
+    (tie.spec
+    (λ c κs. search needs)
+    (λ c κs. search needs)
+    (λ c κs. search needs)
+    (λ c κs. search needs)
+    returns
+    returns-2)

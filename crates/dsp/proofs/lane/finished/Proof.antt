@@ -1,0 +1,49 @@
+-- The callees, with the read-backs removed.
+use borrow.Author.Needs.{needs}
+use mathlib.Core.Path.{_≡_, _∙_, ap}
+use Prim.Native.Nat.{_<_}
+use lib.Signed.{mag}
+use mir.Syntax.{w16}
+use Rattle.numbers.proofs.Range.{landed}
+use Rattle.dsp.specs.Mix.{bit, scaledOutput}
+use Rattle.dsp.specs.Tick.{noised, Waiting, cellFrom, cellAfter}
+use Rattle.dsp.specs.declared.play.Play.{Play}
+use Rattle.dsp.proofs.lane.finished.Statement.{statement}
+use Rattle.dsp.proofs.lane.finished.Tie as tie
+
+-- the noise and the sample have 16 bits
+noise-small : (c : tie.After-struct-told) → mag (c .before .before .before .args .c .noise) < 0x8000
+noise-small c = search needs
+
+sample-small : (c : tie.After-struct-told2) → mag (c .before .before .noised .result .«current_sample») < 0x8000
+sample-small c = c .struct-told2 .given .1 .1 .1 .1 .1 .1 .1 .1 .1 .0 .1
+
+is-noised : (c : tie.After-noised) → c .noised .result ≡ noised (bit (c .before .before .before .before .args .c .non) (c .before .before .before .before .args .j)) (c .before .before .before .before .args .c .noise) (c .before .before .before .before .args .h .play)
+is-noised c =
+    let a = c .before .before .before .before .args in
+    c .noised .ensures ∙ (λ i. noised (c .before .before .bit .ensures i) (landed w16 {z = a .c .noise} (noise-small (c .before)) i) (a .h .play))
+
+scaled-output-requires : tie.Need-scaled-output-requires
+unfolding noised
+scaled-output-requires c κs = rw (c .before .before .noised .ensures) (c .before .before .before .before .before .before .pre .1)
+
+returns : tie.Need-returns
+unfolding cellAfter
+returns c =
+    let a = c .before .before .before .before .before .before .before .before .args in
+    let n = c .before .before .before .before .noised .result in
+    let w : Waiting = record { play = a .h .play; samples = a .samples; delay = a .h .delay; envx = a .h .envx } in
+    let e = landed w16 {z = n .«current_sample»} (sample-small (c .before .before)) in
+    let o = landed w16 (c .before .scaled-output .ok) ∙ c .before .scaled-output .ensures ∙ ap (scaledOutput (n .envelope .phase) (n .envelope .level)) e in
+    (λ i. record { voice = c .with-play .ensures i; delay = a .h .delay; out = o i; envx = a .h .envx; endx = n .endx })
+    ∙ ap (λ (p : Play). cellFrom (a .v) p w) (is-noised (c .before .before .before .before))
+
+pub finished-spec : {M : Type 1} → statement M
+finished-spec =
+    tie.close
+    (tie.spec
+    (λ c κs. search needs)
+    (λ c κs. search needs)
+    scaled-output-requires
+    (λ c κs. search needs)
+    returns)

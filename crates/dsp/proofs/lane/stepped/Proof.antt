@@ -1,0 +1,37 @@
+-- The callees; the poll keeps the voice fit.
+use borrow.Author.Needs.{needs}
+use mathlib.Core.Path.{_∙_, ap}
+use mir.Syntax.{w16}
+use mir.ValLaws.{toZ-ofZ}
+use Rattle.dsp.specs.Tick.{sourceOf, delayOf, waited, waitedOf}
+use Rattle.dsp.proofs.Lanes.{settings-fit, polled-fit}
+use Rattle.dsp.proofs.lane.stepped.Statement.{statement}
+use Rattle.dsp.proofs.lane.stepped.Tie as tie
+
+waited-requires : tie.Need-waited-requires
+waited-requires c κs =
+    let s = c .before .before .before .before .before .before .before .before in
+    (s .pre .0, s .pre .1, s .pre .2, s .pre .3, rw (c .before .before .settings .ensures) (settings-fit (s .args .v) (s .pre .5)), rw (c .before .before .before .before .before .polled .ensures) (polled-fit (s .args .c) (s .args .j) (s .args .v) (s .args .endx) (s .pre .5)))
+
+returns : tie.Need-returns
+unfolding waitedOf
+returns c =
+    let s = c .before .before .before .before .before .before .before .before .before .before in
+    let a = s .args in
+    let d = c .before .before .before .before .before .delay-of .ensures ∙ (λ i. delayOf (c .before .before .before .before .before .before .bit .ensures i) (a .delay)) in
+    let x = c .before .before .before .source-of .ensures ∙ ap (sourceOf (a .c .pmon) (a .j)) (toZ-ofZ w16 (a .prev) (s .fits .prev)) in
+    c .before .waited .ensures
+    ∙ (λ i. waited (a .ram .now) (a .c .dir) (a .srcn) (c .before .before .before .before .settings .ensures i) (a .v .pitch) (x i) (a .envx) (d i) (record { play = c .before .before .before .before .before .before .before .polled .ensures i; samples = a .samples .now }))
+
+pub stepped-spec : {M : Type 1} → statement M
+stepped-spec =
+    tie.close
+    (tie.spec
+    (λ c κs. c .before .before .pre .4)
+    (λ c κs. c .before .before .before .pre .4)
+    (λ c κs. search needs)
+    (λ c κs. search needs)
+    (λ c κs. c .before .before .before .before .before .before .pre .4)
+    waited-requires
+    (λ c. search needs)
+    returns)

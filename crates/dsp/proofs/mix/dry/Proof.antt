@@ -1,0 +1,52 @@
+-- After n turns the sums are n turns of the definition.
+use borrow.Author.Needs.{needs}
+use mathlib.Core.Path.{_≡_, refl}
+use Prim.Native.Nat.{_≤_, _-_}
+use native.Mathlib.Omega.{arith}
+use native.Mathlib.Numerals.{add-one}
+use mir.Syntax.{w16}
+use Rattle.numbers.proofs.Range.{landed}
+use Rattle.dsp.specs.Registers.{turns}
+use Rattle.dsp.specs.Mix.{dryTurn, dryOf}
+use Rattle.dsp.proofs.mix.dry.Statement.{statement}
+use Rattle.dsp.proofs.mix.dry.Tie as tie
+
+abbrev Inv-loop : tie.InvT-loop
+Inv-loop voices s₀ n₀ s n = (n ≤ 8) × (s ≡ turns (dryTurn voices) n s₀)
+
+abbrev μ-loop : tie.MeasureT-loop
+μ-loop voices s₀ n₀ s n = 8 - n
+
+loop-holds : tie.Need-loop-holds Inv-loop μ-loop
+unfolding turns
+loop-holds c = (search needs, refl)
+
+scaled-output-requires : tie.Need-scaled-output-requires Inv-loop μ-loop
+scaled-output-requires c κs = c .before .before .before .before .before .pre .most (c .before .before .before .before .loop .n) (omega arith)
+
+loop-again : tie.Need-loop-again Inv-loop μ-loop
+unfolding turns dryTurn
+loop-again c =
+    let o = c .before .before .before .scaled-output in
+    let l = c .before .before .before .before .before .before .before .before .loop in
+    (search needs, rw (c .heard .ensures, add-one, turns, ← l .inv .1, landed w16 (o .ok), o .ensures) (search needs))
+
+returns : tie.Need-returns Inv-loop μ-loop
+unfolding dryOf
+returns c = let e : 8 ≡ c .before .loop .n = omega arith in rw e (c .before .loop .inv .1)
+
+pub dry-spec : {M : Type 1} → statement M
+dry-spec =
+    tie.close
+    (tie.spec
+    Inv-loop
+    μ-loop
+    loop-holds
+    (λ c. search needs)
+    (λ c. search needs)
+    scaled-output-requires
+    (λ c κs. search needs)
+    (λ c. search needs)
+    (λ c. search needs)
+    loop-again
+    returns)

@@ -1,0 +1,8 @@
+-- Both tests.
+use borrow.Author.Needs.{needs}
+use Rattle.dsp.specs.Voice.{idle}
+use Rattle.dsp.proofs.play.Play.is_idle.Statement.{statement}
+use Rattle.dsp.proofs.play.Play.is_idle.Tie as tie
+
+pub is-idle-spec : {M : Type 1} → statement M
+is-idle-spec = tie.close (tie.spec (λ c κs. search needs) (λ c. rw (c .is-off .ensures)))

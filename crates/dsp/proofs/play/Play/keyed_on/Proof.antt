@@ -1,0 +1,23 @@
+-- By the bit.
+use borrow.Author.Needs.{needs}
+use Rattle.dsp.specs.Tick.{keyedOn}
+use Rattle.dsp.proofs.play.Play.keyed_on.Statement.{statement}
+use Rattle.dsp.proofs.play.Play.keyed_on.Tie as tie
+
+returns : tie.Need-returns
+unfolding keyedOn
+returns c = rw (c .before .if1 .taken, c .wrapping-add16 .ensures) (search needs)
+
+returns-2 : tie.Need-returns-2
+unfolding keyedOn
+returns-2 c = rw (c .if1 .left) (search needs)
+
+pub keyed-on-spec : {M : Type 1} → statement M
+keyed-on-spec =
+    tie.close
+    (tie.spec
+    (λ c. search needs)
+    (λ c. search needs)
+    (λ c κs. search needs)
+    returns
+    returns-2)

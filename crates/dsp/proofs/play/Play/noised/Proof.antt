@@ -1,0 +1,16 @@
+-- By the bit.
+use borrow.Author.Needs.{needs}
+use Rattle.dsp.specs.Tick.{noised}
+use Rattle.dsp.proofs.play.Play.noised.Statement.{statement}
+use Rattle.dsp.proofs.play.Play.noised.Tie as tie
+
+returns : tie.Need-returns
+unfolding noised
+returns c = rw (c .if1 .taken) (search needs)
+
+returns-2 : tie.Need-returns-2
+unfolding noised
+returns-2 c = rw (c .if1 .left) (search needs)
+
+pub noised-spec : {M : Type 1} → statement M
+noised-spec = tie.close (tie.spec returns returns-2)

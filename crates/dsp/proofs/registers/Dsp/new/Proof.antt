@@ -1,0 +1,12 @@
+-- Its voices are new.
+use borrow.Author.Needs.{needs}
+use Rattle.dsp.proofs.registers.Dsp.new.Statement.{statement}
+use Rattle.dsp.proofs.registers.Dsp.new.Tie as tie
+
+pub new-spec : {M : Type 1} → statement M
+new-spec =
+    tie.close
+    (tie.spec
+    (λ c. search needs)
+    (λ c κs. search needs)
+    (λ c. rw (c .new .ensures)))

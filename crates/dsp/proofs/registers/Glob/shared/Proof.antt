@@ -1,0 +1,32 @@
+-- The callees; the sample has 16 bits.
+use borrow.Author.Needs.{needs}
+use mathlib.Core.Path.{_∙_}
+use mir.Syntax.{w16}
+use Rattle.numbers.proofs.Range.{landed}
+use Rattle.dsp.specs.Tick.{sharedFrom}
+use Rattle.dsp.proofs.registers.Glob.shared.Statement.{statement}
+use Rattle.dsp.proofs.registers.Glob.shared.Tie as tie
+
+returns : tie.Need-returns
+unfolding sharedFrom
+returns c =
+    let a = c .before .before .before .args in
+    λ i. record {
+      koff = c .before .before .polled-koff .ensures i;
+      kon = c .before .polled-kon .ensures i;
+      «dir_base» = a .self .«dir_base»;
+      dir = a .dir;
+      non = a .self .non;
+      pmon = a .self .pmon;
+      eon = a .self .eon;
+      noise = (landed w16 (c .sample .ok) ∙ c .sample .ensures) i;
+    }
+
+pub shared-spec : {M : Type 1} → statement M
+shared-spec =
+    tie.close
+    (tie.spec
+    (λ c κs. search needs)
+    (λ c κs. search needs)
+    (λ c κs. search needs)
+    returns)

@@ -1,0 +1,92 @@
+-- The echo: the pair at its pointer goes through the filter, and back into RAM with feedback.
+use mathlib.Core.List.{List}
+use Prim.Native.Nat.{ℕ, _+_, _*_}
+use lib.IntN.{ℤ}
+use lib.ListN.{set}
+use Rattle.numbers.specs.Choice.{if_then_else_, _≤?_, _=?_}
+use Rattle.numbers.specs.Signed.{lowZ, highZ}
+use Rattle.numbers.specs.Unsigned.{wrapped}
+use Rattle.sound.specs.Sound.{joined, fedBack, firOf, movedOn}
+use Rattle.dsp.specs.Brr.{byteAt}
+use Rattle.dsp.specs.Mix.{bit}
+use Rattle.dsp.specs.declared.mix.Stereo.{Stereo}
+use Rattle.dsp.specs.declared.registers.Glob.{Glob}
+
+-- the pair at the pointer: ESA · 256 + pointer, every byte address modulo 65,536
+abbrev pub echoBase : Glob → ℕ
+echoBase g = g .esa * 0x100 + g .«echo_ptr»
+
+unfoldable pub echoRead : Glob → List ℕ → ℕ → ℤ
+echoRead g ram k = joined (byteAt ram (echoBase g + k)) (byteAt ram (echoBase g + (k + 1)))
+
+-- a pair written there, low bytes first
+unfoldable pub echoStored : Glob → List ℕ → ℤ → ℤ → List ℕ
+echoStored g ram l r =
+    set (set (set (set ram (wrapped (echoBase g + 0)) (lowZ l)) (wrapped (echoBase g + 1)) (highZ l)) (wrapped (echoBase g + 2)) (lowZ r))
+    (wrapped (echoBase g + 3)) (highZ r)
+
+-- with FLG bit 5 clear four bytes are written; else none
+unfoldable pub echoWritten : Glob → List ℕ → ℤ → ℤ → List ℕ
+echoWritten g ram l r =
+    if bit (g .flg) 5 then ram else
+    echoStored g ram l r
+
+-- the length is taken from EDL · 2048 only at pointer 0
+unfoldable pub lengthNow : Glob → ℕ
+lengthNow g =
+    if g .«echo_ptr» =? 0 then g .edl * 2048 else
+    g .«echo_len»
+
+-- a pair on; at the length it is 0 again
+unfoldable pub pointerNext : Glob → ℕ
+pointerNext g =
+    if lengthNow g ≤? g .«echo_ptr» + 4 then 0 else
+    g .«echo_ptr» + 4
+
+-- the echo's numbers after a tick that put out l and r
+unfoldable pub echoMoved : Glob → ℤ → ℤ → Glob
+echoMoved g l r =
+    record {
+      «dir_base» = g .«dir_base»;
+      «master_vol_left» = g .«master_vol_left»;
+      «master_vol_right» = g .«master_vol_right»;
+      flg = g .flg;
+      «new_kon» = g .«new_kon»;
+      «every_other_sample» = g .«every_other_sample»;
+      non = g .non;
+      pmon = g .pmon;
+      noise = g .noise;
+      «echo_vol_left» = g .«echo_vol_left»;
+      «echo_vol_right» = g .«echo_vol_right»;
+      efb = g .efb;
+      eon = g .eon;
+      esa = g .esa;
+      edl = g .edl;
+      «echo_ptr» = pointerNext g;
+      «echo_len» = lengthNow g;
+      «echo_out_l» = l;
+      «echo_out_r» = r;
+    }
+
+-- one side: its history moved on by what is read at byte k, and what the filter makes of it
+unfoldable pub historyNow : Glob → List ℕ → ℕ → List ℤ → List ℤ
+historyNow g ram k history = movedOn history (echoRead g ram k)
+
+unfoldable pub echoNow : Glob → List ℕ → ℕ → List ℤ → List ℤ → ℤ
+echoNow g ram k taps history = firOf (historyNow g ram k history) taps
+
+pub record Echo : Type 0 where
+  pub glob : Glob
+  pub left : List ℤ
+  pub right : List ℤ
+  pub ram : List ℕ
+
+-- one tick. What moves in the record depends on no voice; only RAM takes the echo input
+unfoldable pub echoTick : Glob → List ℤ → List ℤ → List ℤ → List ℕ → Stereo → Echo
+echoTick g taps left right ram input =
+    record {
+      glob = echoMoved g (echoNow g ram 0 taps left) (echoNow g ram 2 taps right);
+      left = historyNow g ram 0 left;
+      right = historyNow g ram 2 right;
+      ram = echoWritten g ram (fedBack (input .l) (echoNow g ram 0 taps left) (g .efb)) (fedBack (input .r) (echoNow g ram 2 taps right) (g .efb));
+    }

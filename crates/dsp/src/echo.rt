@@ -1,0 +1,123 @@
+// The echo: the pair at its pointer goes through the filter, and back into RAM with feedback.
+ghost use mathlib.Core.Path.{_≡_};
+ghost use Prim.Native.Nat.{_<_};
+ghost use lib.ListN.{length};
+ghost use Rattle.dsp.specs.Fit.{FitGlob};
+ghost use Rattle.numbers.specs.Unsigned.{wrapped};
+ghost use Rattle.dsp.specs.Echo.{echoBase, echoRead, echoStored, echoWritten, lengthNow, pointerNext, echoMoved, Echo, echoTick};
+use crate::brr::ram_read8;
+use crate::mix::Stereo;
+use crate::mix::bit;
+use crate::registers::Glob;
+
+// The echo's numbers and its two histories.
+pub struct Echoed {
+    pub glob: Glob,
+    pub left: [i16; 8],
+    pub right: [i16; 8],
+}
+
+impl Glob {
+    // ESA · 256 + pointer: the address wraps at 65,536.
+    fn echo_base(self) -> u16
+        ensures { λ r. ⌜ r ≡ wrapped (echoBase self) ⌝ }
+    {
+        numbers::wrapping_add16((self.esa as u16) * 256, self.echo_ptr)
+    }
+
+    // The sample in bytes k and k + 1 of the pair, low byte first.
+    fn read_echo_sample(self, ram: &[u8], k: u16) -> i16
+        requires { ⌜ (length (now ram) ≡ 0x10000) × (k < 4) ⌝ }
+        ensures { λ r. ⌜ r ≡ echoRead self (now (ram .entry)) k ⌝ }
+    {
+        let base = self.echo_base();
+        let lo = ram_read8(ram, base, k);
+        let hi = ram_read8(ram, base, k + 1);
+        sound::joined(lo, hi)
+    }
+
+    fn store_echo(self, ram: &mut [u8], l: i16, r: i16)
+        requires { ⌜ length (now ram) ≡ 0x10000 ⌝ }
+        ensures { λ _. ⌜ now (ram .exit) ≡ echoStored self (now (ram .entry)) l r ⌝ }
+    {
+        let base = self.echo_base();
+        let a = numbers::wrapping_add16(base, 0) as usize;
+        let b = numbers::wrapping_add16(base, 1) as usize;
+        let c = numbers::wrapping_add16(base, 2) as usize;
+        let d = numbers::wrapping_add16(base, 3) as usize;
+        ram[a] = numbers::low(l);
+        ram[b] = numbers::high(l);
+        ram[c] = numbers::low(r);
+        ram[d] = numbers::high(r);
+    }
+
+    fn write_echo(self, ram: &mut [u8], l: i16, r: i16)
+        requires { ⌜ length (now ram) ≡ 0x10000 ⌝ }
+        ensures { λ _. ⌜ now (ram .exit) ≡ echoWritten self (now (ram .entry)) l r ⌝ }
+    {
+        if bit(self.flg, 5) {} else {
+            self.store_echo(ram, l, r);
+        }
+    }
+
+    fn length_now(self) -> u16
+        requires { ⌜ FitGlob self ⌝ }
+        ensures { λ r. ⌜ r ≡ lengthNow self ⌝ }
+    {
+        if self.echo_ptr == 0 {
+            (self.edl as u16) * 2048
+        } else {
+            self.echo_len
+        }
+    }
+
+    fn pointer_next(self) -> u16
+        requires { ⌜ FitGlob self ⌝ }
+        ensures { λ r. ⌜ r ≡ pointerNext self ⌝ }
+    {
+        let next = self.echo_ptr + 4;
+        if self.length_now() <= next { 0 } else { next }
+    }
+
+    fn echo_moved(mut self, l: i16, r: i16) -> Self
+        requires { ⌜ FitGlob self ⌝ }
+        ensures { λ x. ⌜ x ≡ echoMoved self l r ⌝ }
+    {
+        let len = self.length_now();
+        let ptr = self.pointer_next();
+        self.echo_len = len;
+        self.echo_ptr = ptr;
+        self.echo_out_l = l;
+        self.echo_out_r = r;
+        self
+    }
+
+    // One tick of the echo.
+    pub(crate) fn tick_echo(
+        self,
+        taps: [i8; 8],
+        left: [i16; 8],
+        right: [i16; 8],
+        ram: &mut [u8],
+        input: Stereo,
+    ) -> Echoed
+        requires { ⌜ (length (now ram) ≡ 0x10000) × FitGlob self ⌝ }
+        ensures { λ x. ⌜ _≡_ {A = Echo} (record { glob = x .glob; left = x .left; right = x .right; ram = now (ram .exit) }) (echoTick self taps left right (now (ram .entry)) input) ⌝ }
+    {
+        let read_l = self.read_echo_sample(ram, 0);
+        let read_r = self.read_echo_sample(ram, 2);
+        let hl = sound::moved_on(left, read_l);
+        let hr = sound::moved_on(right, read_r);
+        let fir_l = sound::fir(hl, taps);
+        let fir_r = sound::fir(hr, taps);
+        let write_l = sound::fed_back(input.l, fir_l, self.efb);
+        let write_r = sound::fed_back(input.r, fir_r, self.efb);
+        self.write_echo(ram, write_l, write_r);
+        let g = self.echo_moved(fir_l, fir_r);
+        Echoed {
+            glob: g,
+            left: hl,
+            right: hr,
+        }
+    }
+}

@@ -1,0 +1,352 @@
+// The machine record, its reads, and its register writes.
+ghost use mathlib.Core.Path.{_≡_};
+ghost use Prim.Native.Nat.{_<_, _%_};
+ghost use lib.ListN.{getD};
+ghost use Rattle.dsp.specs.Machine.{newDsp, globOf, withGlob};
+ghost use Rattle.dsp.specs.Fit.{fitGlob, fit};
+ghost use Rattle.dsp.specs.Registers.{globWrite, silenceAll, resetDsp, putGlobal, writeAt, Written, writeOf};
+use crate::noise::Noise;
+use crate::voice::Voice;
+
+pub struct Dsp {
+    pub registers: [u8; 128],
+    pub voices: [Voice; 8],
+    pub dir_base: u8,
+    pub master_vol_left: i8,
+    pub master_vol_right: i8,
+    pub flg: u8,
+    pub new_kon: u8,
+    pub every_other_sample: bool,
+    pub kon_delay: [u8; 8],
+    pub non: u8,
+    pub pmon: u8,
+    pub noise_lfsr: u16,
+    pub noise_tick_counter: u16,
+    pub echo_vol_left: i8,
+    pub echo_vol_right: i8,
+    pub efb: i8,
+    pub eon: u8,
+    pub esa: u8,
+    pub edl: u8,
+    pub fir_coeff: [i8; 8],
+    pub fir_history_l: [i16; 8],
+    pub fir_history_r: [i16; 8],
+    pub echo_ptr: u16,
+    pub echo_len: u16,
+    pub echo_out_l: i16,
+    pub echo_out_r: i16,
+}
+
+// The record's numbers that belong to no voice and stand in no array.
+pub struct Glob {
+    pub dir_base: u8,
+    pub master_vol_left: i8,
+    pub master_vol_right: i8,
+    pub flg: u8,
+    pub new_kon: u8,
+    pub every_other_sample: bool,
+    pub non: u8,
+    pub pmon: u8,
+    pub noise: Noise,
+    pub echo_vol_left: i8,
+    pub echo_vol_right: i8,
+    pub efb: i8,
+    pub eon: u8,
+    pub esa: u8,
+    pub edl: u8,
+    pub echo_ptr: u16,
+    pub echo_len: u16,
+    pub echo_out_l: i16,
+    pub echo_out_r: i16,
+}
+
+// What a register write answers: 0 or the refusal, and the record.
+pub struct Answer {
+    pub refusal: u8,
+    pub dsp: Dsp,
+}
+
+impl Glob {
+    pub(crate) fn is_fit(self) -> bool
+        ensures { λ r. ⌜ r ≡ fitGlob self ⌝ }
+    {
+        let n = self.noise;
+        (n.counter <= 2047)
+            & (n.lfsr <= 0x7FFF)
+            & (self.edl <= 15)
+            & (self.pmon % 2 == 0)
+            & (self.echo_len % 2048 == 0)
+            & (self.echo_len <= 30720)
+            & (self.echo_ptr % 4 == 0)
+            & ((self.echo_ptr == 0) | (self.echo_ptr < self.echo_len))
+    }
+
+    // The global registers. KOFF is read straight from its byte at each poll; the rest is stored only there.
+    pub(crate) fn write(mut self, idx: u8, value: u8) -> Self
+        ensures { λ r. ⌜ r ≡ globWrite idx value self ⌝ }
+    {
+        match idx {
+            0x4C => {
+                self.new_kon = value;
+                self
+            }
+            0x0C => {
+                self.master_vol_left = numbers::signed8(value);
+                self
+            }
+            0x1C => {
+                self.master_vol_right = numbers::signed8(value);
+                self
+            }
+            0x5D => {
+                self.dir_base = value;
+                self
+            }
+            0x3D => {
+                self.non = value;
+                self
+            }
+            0x2D => {
+                self.pmon = value / 2 * 2;
+                self
+            }
+            0x2C => {
+                self.echo_vol_left = numbers::signed8(value);
+                self
+            }
+            0x3C => {
+                self.echo_vol_right = numbers::signed8(value);
+                self
+            }
+            0x0D => {
+                self.efb = numbers::signed8(value);
+                self
+            }
+            0x4D => {
+                self.eon = value;
+                self
+            }
+            0x6D => {
+                self.esa = value;
+                self
+            }
+            0x7D => {
+                self.edl = value % 16;
+                self
+            }
+            0x6C => {
+                self.flg = value;
+                self
+            }
+            _ => self,
+        }
+    }
+}
+
+impl Dsp {
+    // The power-on record: FLG $E0 blocks key-ons, mutes, and keeps the echo from writing.
+    pub fn new() -> Self
+        ensures { λ r. ⌜ r ≡ newDsp ⌝ }
+    {
+        let mut registers = [0; 128];
+        registers[0x6C] = 0xE0;
+        let v = Voice::new();
+        Self {
+            registers,
+            voices: [v; 8],
+            dir_base: 0,
+            master_vol_left: 0,
+            master_vol_right: 0,
+            flg: 0xE0,
+            new_kon: 0,
+            every_other_sample: false,
+            kon_delay: [0; 8],
+            non: 0,
+            pmon: 0,
+            noise_lfsr: 0x4000,
+            noise_tick_counter: 0,
+            echo_vol_left: 0,
+            echo_vol_right: 0,
+            efb: 0,
+            eon: 0,
+            esa: 0,
+            edl: 0,
+            fir_coeff: [0; 8],
+            fir_history_l: [0; 8],
+            fir_history_r: [0; 8],
+            echo_ptr: 0,
+            echo_len: 0,
+            echo_out_l: 0,
+            echo_out_r: 0,
+        }
+    }
+
+    // The byte last written or left there, whatever is used of it inside.
+    pub fn read_reg(self, index: u8) -> u8
+        ensures { λ r. ⌜ r ≡ getD (self .registers) (index % 128) 0 ⌝ }
+    {
+        let at = (index % 128) as usize;
+        self.registers[at]
+    }
+
+    // The echo delay as used: the low 4 bits of what was written.
+    pub fn edl(self) -> u8
+        ensures { λ r. ⌜ r ≡ self .edl ⌝ }
+    {
+        self.edl
+    }
+
+    // The pitch modulation mask as used: bit 0 cleared.
+    pub fn pmon(self) -> u8
+        ensures { λ r. ⌜ r ≡ self .pmon ⌝ }
+    {
+        self.pmon
+    }
+
+    pub(crate) fn glob(self) -> Glob
+        ensures { λ r. ⌜ r ≡ globOf self ⌝ }
+    {
+        let noise = Noise {
+            lfsr: self.noise_lfsr,
+            counter: self.noise_tick_counter,
+        };
+        Glob {
+            dir_base: self.dir_base,
+            master_vol_left: self.master_vol_left,
+            master_vol_right: self.master_vol_right,
+            flg: self.flg,
+            new_kon: self.new_kon,
+            every_other_sample: self.every_other_sample,
+            non: self.non,
+            pmon: self.pmon,
+            noise,
+            echo_vol_left: self.echo_vol_left,
+            echo_vol_right: self.echo_vol_right,
+            efb: self.efb,
+            eon: self.eon,
+            esa: self.esa,
+            edl: self.edl,
+            echo_ptr: self.echo_ptr,
+            echo_len: self.echo_len,
+            echo_out_l: self.echo_out_l,
+            echo_out_r: self.echo_out_r,
+        }
+    }
+
+    pub(crate) fn is_fit(self) -> bool
+        ensures { λ r. ⌜ r ≡ fit self ⌝ }
+    {
+        let g = self.glob();
+        let mut ok = g.is_fit();
+        let mut n: usize = 0;
+        while n < 8 {
+            let v = self.voices[n];
+            let delay = self.kon_delay[n];
+            ok = ok & v.is_fit() & (delay <= 5);
+            n += 1;
+        }
+        ok
+    }
+
+    pub(crate) fn with_glob(mut self, g: Glob) -> Self
+        ensures { λ r. ⌜ r ≡ withGlob self g ⌝ }
+    {
+        let n = g.noise;
+        self.dir_base = g.dir_base;
+        self.master_vol_left = g.master_vol_left;
+        self.master_vol_right = g.master_vol_right;
+        self.flg = g.flg;
+        self.new_kon = g.new_kon;
+        self.every_other_sample = g.every_other_sample;
+        self.non = g.non;
+        self.pmon = g.pmon;
+        self.echo_vol_left = g.echo_vol_left;
+        self.echo_vol_right = g.echo_vol_right;
+        self.efb = g.efb;
+        self.eon = g.eon;
+        self.esa = g.esa;
+        self.edl = g.edl;
+        self.echo_ptr = g.echo_ptr;
+        self.echo_len = g.echo_len;
+        self.echo_out_l = g.echo_out_l;
+        self.echo_out_r = g.echo_out_r;
+        self.noise_lfsr = n.lfsr;
+        self.noise_tick_counter = n.counter;
+        self
+    }
+
+    // RESET silences every voice at once and clears ENDX; delays and the pending KON stay.
+    fn reset(mut self) -> Self
+        ensures { λ r. ⌜ r ≡ resetDsp self ⌝ }
+    {
+        self.registers[0x7C] = 0;
+        let voices = self.voices;
+        let cut = silence_all(voices);
+        self.voices = cut;
+        self
+    }
+
+    fn put_global(self, idx: u8, value: u8) -> Self
+        ensures { λ r. ⌜ r ≡ putGlobal idx value self ⌝ }
+    {
+        let g = self.glob();
+        let h = g.write(idx, value);
+        let d = self.with_glob(h);
+        if (idx == 0x6C) & (value >= 0x80) {
+            d.reset()
+        } else {
+            d
+        }
+    }
+
+    // One register, by its number below $80, on a record that is known to be fit.
+    pub(crate) fn put(mut self, idx: u8, value: u8) -> Self
+        requires { ⌜ idx < 128 ⌝ }
+        ensures { λ r. ⌜ r ≡ writeAt idx value self ⌝ }
+    {
+        let at = idx as usize;
+        self.registers[at] = value;
+        let off = idx % 16;
+        let v = (idx / 16) as usize;
+        if off < 8 {
+            let voice = self.voices[v];
+            let w = voice.write(off, value);
+            self.voices[v] = w;
+            self
+        } else if off == 15 {
+            self.fir_coeff[v] = numbers::signed8(value);
+            self
+        } else {
+            self.put_global(idx, value)
+        }
+    }
+
+    // Write a register and update what it stands for. Refuses 2.
+    pub fn write_reg(self, index: u8, value: u8) -> Answer
+        ensures { λ r. ⌜ _≡_ {A = Written} (record { refusal = r .refusal; dsp = r .dsp }) (writeOf index value self) ⌝ }
+    {
+        if self.is_fit() {
+            let d = self.put(index % 128, value);
+            Answer { refusal: 0, dsp: d }
+        } else {
+            Answer {
+                refusal: 2,
+                dsp: self,
+            }
+        }
+    }
+}
+
+pub(crate) fn silence_all(voices: [Voice; 8]) -> [Voice; 8]
+    ensures { λ r. ⌜ r ≡ silenceAll voices ⌝ }
+{
+    let mut vs = voices;
+    let mut n: usize = 0;
+    while n < 8 {
+        let v = vs[n];
+        let cut = v.silenced();
+        vs[n] = cut;
+        n += 1;
+    }
+    vs
+}

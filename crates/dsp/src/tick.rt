@@ -1,0 +1,175 @@
+// The machine's tick: the record is taken apart once, driven through its ticks, and made again once.
+ghost use mathlib.Core.Path.{_≡_};
+ghost use mathlib.Core.Bool.{_&&_};
+ghost use lib.ListN.{length};
+ghost use Rattle.numbers.specs.Choice.{if_then_else_, _<?_};
+ghost use Rattle.dsp.specs.Clock.{periods};
+ghost use Rattle.dsp.specs.Noise.{FitNoise};
+ghost use Rattle.dsp.specs.Fit.{FitGlob, Fit};
+ghost use Rattle.dsp.specs.Machine.{apart, together};
+ghost use Rattle.dsp.specs.Tick.{polls, globTick, sharedFrom, Bench, ticksOf, After, stepOf};
+use crate::adsr::rate_table;
+use crate::gauss::gauss_table;
+use crate::lane::Acc;
+use crate::lane::Shared;
+use crate::lane::lane;
+use crate::noise::Noise;
+use crate::registers::Answer;
+use crate::registers::Dsp;
+use crate::registers::Glob;
+use crate::voice::Voice;
+
+const RAM_SIZE: usize = 0x10000;
+
+impl Glob {
+    // The poll comes on the ticks on which every_other_sample turns true, and uses up the pending KON.
+    fn ticked(mut self, rates: &[u16]) -> Self
+        requires { ⌜ (now rates ≡ periods) × FitGlob self ⌝ }
+        ensures { λ r. ⌜ r ≡ globTick self ⌝ }
+    {
+        let n = self.noise;
+        let m = n.advance(rates, self.flg);
+        self.noise = m;
+        if self.every_other_sample {
+            self.every_other_sample = false;
+            self
+        } else {
+            self.every_other_sample = true;
+            self.new_kon = 0;
+            self
+        }
+    }
+
+    fn polled_koff(self, koff: u8) -> u8
+        ensures { λ r. ⌜ r ≡ (if polls self then koff else 0) ⌝ }
+    {
+        if self.every_other_sample { 0 } else { koff }
+    }
+
+    // While FLG's RESET bit is set, pending key-ons are used up without effect.
+    fn polled_kon(self) -> u8
+        ensures { λ r. ⌜ r ≡ (if polls self && (self .flg <? 0x80) then self .«new_kon» else 0) ⌝ }
+    {
+        if !self.every_other_sample & (self.flg < 0x80) {
+            self.new_kon
+        } else {
+            0
+        }
+    }
+
+    // What the voices see: the noise as it has moved, the rest as it stood before the tick.
+    fn shared(self, noise: Noise, koff: u8, dir: u8) -> Shared
+        requires { ⌜ FitNoise noise ⌝ }
+        ensures { λ r. ⌜ r ≡ sharedFrom self noise koff dir ⌝ }
+    {
+        Shared {
+            koff: self.polled_koff(koff),
+            kon: self.polled_kon(),
+            dir_base: self.dir_base,
+            dir,
+            non: self.non,
+            pmon: self.pmon,
+            eon: self.eon,
+            noise: noise.sample(),
+        }
+    }
+}
+
+impl Dsp {
+    fn bytes(self) -> [u8; 128]
+        ensures { λ r. ⌜ r ≡ self .registers ⌝ }
+    {
+        self.registers
+    }
+
+    fn lanes(self) -> [Voice; 8]
+        ensures { λ r. ⌜ r ≡ self .voices ⌝ }
+    {
+        self.voices
+    }
+
+    fn delays(self) -> [u8; 8]
+        ensures { λ r. ⌜ r ≡ self .«kon_delay» ⌝ }
+    {
+        self.kon_delay
+    }
+
+    fn with_parts(
+        self,
+        g: Glob,
+        registers: [u8; 128],
+        voices: [Voice; 8],
+        delays: [u8; 8],
+        left: [i16; 8],
+        right: [i16; 8],
+    ) -> Self
+        ensures { λ r. ⌜ r ≡ together (record { registers = registers; voices = voices; delays = delays; taps = self .«fir_coeff»; left = left; right = right; glob = g }) ⌝ }
+    {
+        let mut d = self.with_glob(g);
+        d.registers = registers;
+        d.voices = voices;
+        d.kon_delay = delays;
+        d.fir_history_l = left;
+        d.fir_history_r = right;
+        d
+    }
+
+    // n ticks. The arrays are locals that are lent, so that nothing large is handed about in a tick.
+    pub(crate) fn drive(self, ram: &mut [u8], n: u32) -> Self
+        requires { ⌜ (length (now ram) ≡ 0x10000) × Fit self ⌝ }
+        ensures { λ r. ⌜ _≡_ {A = Bench} (record { parts = apart r; ram = now (ram .exit) }) (ticksOf n (record { parts = apart self; ram = now (ram .entry) })) ⌝ }
+    {
+        let table = gauss_table();
+        let rates = rate_table();
+        let taps = self.fir_coeff;
+        let mut bytes = self.bytes();
+        let mut voices = self.lanes();
+        let mut delays = self.delays();
+        let mut left = self.fir_history_l;
+        let mut right = self.fir_history_r;
+        let mut g = self.glob();
+        let mut i: u32 = 0;
+        while i < n {
+            let h = g.ticked(&rates);
+            let c = g.shared(h.noise, bytes[0x5C], bytes[0x5D]);
+            let mut acc = Acc::new();
+            let mut v: usize = 0;
+            while v < 8 {
+                let x = voices[v];
+                let t = lane(x, delays[v], c, v, acc, &table, &rates, ram, &mut bytes);
+                let y = t.voice;
+                voices[v] = y;
+                delays[v] = t.delay;
+                acc = t.acc;
+                v += 1;
+            }
+            let e = h.tick_echo(taps, left, right, ram, acc.input);
+            g = e.glob;
+            left = e.left;
+            right = e.right;
+            i += 1;
+        }
+        self.with_parts(g, bytes, voices, delays, left, right)
+    }
+
+    // One tick. Refuses 1, then 2.
+    pub fn step(self, ram: &mut [u8]) -> Answer
+        ensures { λ r. ⌜ _≡_ {A = After} (record { refusal = r .refusal; dsp = r .dsp; ram = now (ram .exit) }) (stepOf self (now (ram .entry))) ⌝ }
+    {
+        if ram.len() != RAM_SIZE {
+            return Answer {
+                refusal: 1,
+                dsp: self,
+            };
+        }
+        if self.is_fit() {
+            let d = self.drive(ram, 1);
+            Answer { refusal: 0, dsp: d }
+        } else {
+            Answer {
+                refusal: 2,
+                dsp: self,
+            }
+        }
+    }
+}

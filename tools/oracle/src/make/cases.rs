@@ -1,0 +1,102 @@
+//! Files of cases, from a kind, a count and a seed.
+
+use super::{bank, directed, encode, plain};
+use crate::cases::{Case, CASES_MOST};
+use crate::random::Random;
+
+/// RAM images of random cases. Those that are stored want few.
+const IMAGES: usize = 10;
+const IMAGES_STORED: usize = 2;
+const TICKS_LEAST: usize = 100;
+const TICKS_MOST: usize = 300;
+
+pub struct Made {
+    pub cases: Vec<Case>,
+    pub rams: Vec<Vec<u8>>,
+    /// A line for each case that has a name: its number, then the name.
+    pub names: String,
+}
+
+/// `random`: so many random cases. `directed`: those that are named, then
+/// so many random ones.
+pub fn cases(kind: &str, count: usize, seed: u64) -> Result<Made, String> {
+    let mut random = Random::new(seed);
+    let made = match kind {
+        "random" => with_random(nothing(), &mut random, count, IMAGES),
+        "directed" => with_random(directed::all(), &mut random, count, IMAGES_STORED),
+        _ => return Err(format!("{kind} is no kind of cases")),
+    };
+    if made.cases.len() > CASES_MOST {
+        return Err(format!("more than {CASES_MOST} cases"));
+    }
+    Ok(made)
+}
+
+fn nothing() -> Made {
+    Made {
+        cases: Vec::new(),
+        rams: Vec::new(),
+        names: String::new(),
+    }
+}
+
+/// Random logs after what is there. Each takes one of a few new images.
+fn with_random(made: Made, random: &mut Random, count: usize, images: usize) -> Made {
+    let banks: Vec<_> = (0..images).map(|_| bank::bank(random)).collect();
+    let Made {
+        mut cases,
+        mut rams,
+        names,
+    } = made;
+    for _ in 0..count {
+        let image = random.below(images);
+        let ticks = random.between(TICKS_LEAST, TICKS_MOST);
+        cases.push(Case {
+            ram: (rams.len() + image) as u8,
+            log: encode(&plain::records(random, banks[image].dir, ticks)),
+        });
+    }
+    rams.extend(banks.into_iter().map(|bank| bank.ram));
+    Made { cases, rams, names }
+}
+
+#[cfg(test)]
+mod tests {
+    use super::*;
+    use crate::log::{self, Record};
+
+    fn ticks(case: &Case) -> usize {
+        let records = log::read(&case.log).unwrap();
+        let count = |record: &Record| match record {
+            Record::Ticks(count) => usize::from(*count),
+            _ => 0,
+        };
+        records.iter().map(count).sum()
+    }
+
+    #[test]
+    fn random_cases_are_valid_and_made_again() {
+        let made = cases("random", 50, 7).unwrap();
+        assert_eq!((made.cases.len(), made.rams.len()), (50, IMAGES));
+        for case in &made.cases {
+            assert!((TICKS_LEAST..=TICKS_MOST).contains(&ticks(case)));
+        }
+        assert_eq!(made.cases, cases("random", 50, 7).unwrap().cases);
+        assert_ne!(made.cases, cases("random", 50, 8).unwrap().cases);
+    }
+
+    #[test]
+    fn directed_cases_come_first() {
+        let made = cases("directed", 3, 1).unwrap();
+        let named = made.names.lines().count();
+        assert_eq!(made.cases.len(), named + 3);
+        assert_eq!(made.rams.len(), 1 + IMAGES_STORED);
+    }
+
+    #[test]
+    fn limits() {
+        assert!(cases("random", CASES_MOST, 1).is_ok());
+        assert!(cases("random", CASES_MOST + 1, 1).is_err());
+        assert!(cases("other", 1, 1).is_err());
+    }
+}

@@ -1,0 +1,69 @@
+//! Small cases by name, at least one for each rule of document 01 under
+//! voice.rs and mod.rs. The tables cite the rule above each row.
+
+mod echo;
+mod image;
+mod keys;
+mod mix;
+mod refused;
+mod script;
+mod voices;
+
+use super::cases::Made;
+use super::encode;
+use crate::cases::Case;
+use script::Script;
+
+/// What a case is called, and what it does from `new`.
+pub type Named = (&'static str, fn(&mut Script));
+
+/// All of them run on the one image.
+pub fn all() -> Made {
+    let named: Vec<_> = played().into_iter().chain(refused::cases()).collect();
+    let line = |(number, (name, _)): (usize, &(&str, Case))| format!("{number} {name}\n");
+    Made {
+        names: (1..).zip(&named).map(line).collect(),
+        cases: named.into_iter().map(|(_, case)| case).collect(),
+        rams: vec![image::image()],
+    }
+}
+
+fn played() -> Vec<(&'static str, Case)> {
+    let tables = [keys::TABLE, voices::TABLE, mix::TABLE, echo::TABLE];
+    let case = |(name, play): &Named| {
+        let mut script = Script::new();
+        play(&mut script);
+        let log = encode(&script.ended());
+        (*name, Case { ram: 0, log })
+    };
+    tables.concat().iter().map(case).collect()
+}
+
+#[cfg(test)]
+mod tests {
+    use super::*;
+    use crate::bytes::digest;
+    use crate::chip;
+
+    #[test]
+    fn names_differ() {
+        let made = all();
+        let mut names: Vec<_> = made.names.lines().map(|l| l.split_once(' ')).collect();
+        names.sort_by_key(|line| line.unwrap().1);
+        names.dedup_by_key(|line| line.unwrap().1);
+        assert_eq!(names.len(), made.cases.len());
+    }
+
+    /// A case that gives what another gives would show nothing of its own.
+    #[test]
+    fn outcomes_differ() {
+        let outcome = |(_, case): &(&str, Case)| {
+            let outcome = chip::run(&case.log, image::image()).unwrap();
+            (outcome.trace, digest(&outcome.ram[..]))
+        };
+        let mut outcomes: Vec<_> = played().iter().map(outcome).collect();
+        outcomes.sort();
+        outcomes.dedup();
+        assert_eq!(outcomes.len(), played().len());
+    }
+}
