@@ -42,12 +42,12 @@ pub fn with_registers(sum: u64, dsp: Dsp) -> u64 {
     made
 }
 
-pub fn of_bytes(bytes: &[u8]) -> u64 {
-    let mut sum = EMPTY;
+pub fn with_bytes(sum: u64, bytes: &[u8]) -> u64 {
+    let mut made = sum;
     let mut i: usize = 0;
     while i < bytes.len() {
-        sum = with_byte(sum, bytes[i]);
+        made = with_byte(made, bytes[i]);
         i += 1;
     }
-    sum
+    made
 }

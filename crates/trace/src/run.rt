@@ -3,7 +3,7 @@ ghost use mathlib.Core.Path.{_≡_};
 ghost use Prim.Native.Nat.{_+_, _≤_};
 ghost use lib.ListN.{length};
 use crate::digest::EMPTY;
-use crate::digest::of_bytes;
+use crate::digest::with_bytes;
 use crate::digest::with_registers;
 use crate::digest::with_sample;
 use crate::lines;
@@ -65,7 +65,7 @@ impl Run {
         self.refusal = s.refusal;
         self.ticks += 1;
         self.pcm = with_sample(self.pcm, s);
-        self.trace = with_sample(with_registers(self.trace, e), s);
+        self.trace = with_bytes(with_sample(with_registers(self.trace, e), s), ram);
         self
     }
 
@@ -87,7 +87,7 @@ impl Run {
         let d = self.dsp;
         lines::end(self.ticks, self.readings);
         lines::registers(d);
-        lines::digest(b"RAM ", of_bytes(ram));
+        lines::digest(b"RAM ", with_bytes(EMPTY, ram));
         lines::digest(b"PCM ", self.pcm);
         lines::digest(b"TRACE ", self.trace);
     }

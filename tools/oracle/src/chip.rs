@@ -18,7 +18,7 @@ pub struct Outcome {
     pub ram: Box<RawARAM>,
     /// Left, right, 16 bits, low byte first.
     pub pcm: Vec<u8>,
-    /// Digest of, tick by tick, the 128 registers after it and its sample.
+    /// Digest of, tick by tick, the 128 registers after it, its sample and RAM.
     pub trace: u64,
 }
 
@@ -42,6 +42,7 @@ pub fn run(log: &[u8], ram: Vec<u8>) -> Result<Outcome, Refusal> {
                     tick(&mut dsp, &mut ram, &mut pcm);
                     trace.bytes(&registers(&dsp));
                     trace.bytes(&pcm.0[pcm.0.len() - SAMPLE_SIZE..]);
+                    trace.bytes(&ram[..]);
                 }
             }
             Record::End => {}

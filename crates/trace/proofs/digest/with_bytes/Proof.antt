@@ -2,17 +2,17 @@
 use borrow.Author.Needs.{needs}
 use Prim.Native.Nat.{_-_, _≤_}
 use lib.ListN.{length}
-use Rattle.trace.proofs.digest.of_bytes.Statement.{statement}
-use Rattle.trace.proofs.digest.of_bytes.Tie as tie
+use Rattle.trace.proofs.digest.with_bytes.Statement.{statement}
+use Rattle.trace.proofs.digest.with_bytes.Tie as tie
 
 abbrev Inv-loop : tie.InvT-loop
-Inv-loop bytes sum₀ i₀ sum i = i ≤ length bytes
+Inv-loop sum bytes made₀ i₀ made i = i ≤ length bytes
 
 abbrev μ-loop : tie.MeasureT-loop
-μ-loop bytes sum₀ i₀ sum i = length bytes - i
+μ-loop sum bytes made₀ i₀ made i = length bytes - i
 
-pub of-bytes-spec : {M : Type 1} → statement M
-of-bytes-spec =
+pub with-bytes-spec : {M : Type 1} → statement M
+with-bytes-spec =
     tie.close
     (tie.spec
     Inv-loop
