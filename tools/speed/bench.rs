@@ -44,17 +44,26 @@ fn main() {
     let words: Vec<usize> = std::env::args().skip(1).map(|w| w.parse().unwrap()).collect();
     let (ticks, runs) = (words[0], words[1]);
     let mut ram = Box::new([0u8; 65536]);
+    let mut pcm = vec![0u8; ticks * 4];
     for _ in 0..runs {
         fill(&mut ram);
         let begun = Instant::now();
         let mut dsp = workload();
-        for _ in 0..ticks {
+        for frame in pcm.chunks_exact_mut(4) {
             dsp.step(&mut ram);
+            let (left, right) = dsp.render_audio_single();
+            frame[..2].copy_from_slice(&left.to_le_bytes());
+            frame[2..].copy_from_slice(&right.to_le_bytes());
         }
         println!("{}", begun.elapsed().as_nanos());
     }
-    let digest = ram.iter().fold(0xCBF2_9CE4_8422_2325u64, |sum, byte| {
+    digest("RAM", &ram[..]);
+    digest("PCM", &pcm);
+}
+
+fn digest(name: &str, bytes: &[u8]) {
+    let sum = bytes.iter().fold(0xCBF2_9CE4_8422_2325u64, |sum, byte| {
         (sum ^ u64::from(*byte)).wrapping_mul(0x0000_0100_0000_01B3)
     });
-    println!("RAM {digest:016X}");
+    println!("{name} {sum:016X}");
 }

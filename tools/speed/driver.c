@@ -5,8 +5,8 @@
 #include <time.h>
 
 typedef struct { uint8_t *p; uint64_t n; } slice;
-int64_t rt_run(slice *ram, uint32_t ticks);
-static uint8_t ram[65536];
+int64_t rt_run(slice *ram, uint64_t ticks, slice *pcm, slice *sheet);
+static uint8_t ram[65536], pcm[32000 * 4], sheet[32000 * 36];
 
 static void fill(void) {
     uint32_t x = 12345;
@@ -27,19 +27,25 @@ static void fill(void) {
     }
 }
 
+static void digest(const char *name, const uint8_t *bytes, uint64_t n) {
+    uint64_t d = 0xCBF29CE484222325ULL;
+    for (uint64_t i = 0; i < n; i++) d = (d ^ bytes[i]) * 0x100000001B3ULL;
+    printf("%s %016llX\n", name, (unsigned long long)d);
+}
+
 int main(int count, char **words) {
     if (count != 3) return 2;
-    uint32_t ticks = atoi(words[1]);
+    uint64_t ticks = atoi(words[1]);
+    if (ticks > 32000) return 2;
     for (int k = atoi(words[2]); k > 0; k--) {
         fill();
-        slice lent = {ram, 65536};
+        slice lent = {ram, 65536}, samples = {pcm, ticks * 4}, rows = {sheet, ticks * 36};
         struct timespec a, b;
         clock_gettime(CLOCK_MONOTONIC, &a);
-        rt_run(&lent, ticks);
+        rt_run(&lent, ticks, &samples, &rows);
         clock_gettime(CLOCK_MONOTONIC, &b);
         printf("%lld\n", (b.tv_sec - a.tv_sec) * 1000000000LL + (b.tv_nsec - a.tv_nsec));
     }
-    uint64_t digest = 0xCBF29CE484222325ULL;
-    for (int i = 0; i < 65536; i++) digest = (digest ^ ram[i]) * 0x100000001B3ULL;
-    printf("RAM %016llX\n", (unsigned long long)digest);
+    digest("RAM", ram, 65536);
+    digest("PCM", pcm, ticks * 4);
 }

@@ -6,13 +6,13 @@ use mathlib.Core.Path.{refl}
 use Prim.Native.Nat.{ℕ, _-_, _≤_}
 use native.Mathlib.Omega.{arith}
 use lib.IntN.{ℤ}
-use Rattle.numbers.specs.Choice.{_=?_}
+use Rattle.numbers.specs.Choice.{if_then_else_, _=?_}
 use Rattle.numbers.proofs.Choice.{chosen}
 use Rattle.dsp.specs.Envelope.{FitSettings, isOff}
 use Rattle.dsp.specs.Fit.{FitVoice}
 use Rattle.dsp.specs.Mix.{bit}
 use Rattle.dsp.specs.Voice.{FitPlay, Sounding}
-use Rattle.dsp.specs.Tick.{playOf, settingsOf, keyedOff, keyedOn, delayOf, Waiting, waited, noised, sourceOf, polledOf, waitedOf, Cell, cellAfter, cellOf}
+use Rattle.dsp.specs.Lane.{ownCell, shownCell, playOf, settingsOf, keyedOff, keyedOn, delayOf, Waiting, waited, noised, sourceOf, polledOf, waitedOf, Cell, cellAfter, cellOf}
 use Rattle.dsp.specs.declared.adsr.Settings.{Settings}
 use Rattle.dsp.specs.declared.voice.Voice.{Voice}
 use Rattle.dsp.specs.declared.play.Source.{Source}
@@ -102,3 +102,10 @@ unfolding cellOf
 fit-kept-cell c ram j prev v delay srcn envx endx h d =
     after-fit c j v (waitedOf c ram j prev v delay srcn envx endx (v .brr .«sample_buffer»)) h
     (fit-kept-waited c ram j prev v delay srcn envx endx (v .brr .«sample_buffer») h d)
+
+-- worked, or shown from the sheet
+pub fit-kept-either : (worked : Bool) (c : Shared) (ram : List ℕ) (j : ℕ) (prev : ℤ) (v : Voice) (delay : ℕ) (bytes slot : List ℕ) → FitVoice v → delay ≤ 5
+    → FitCell (if worked then ownCell c ram j prev v delay bytes else shownCell slot v delay)
+unfolding ownCell shownCell
+fit-kept-either worked c ram j prev v delay bytes slot h d =
+    chosen FitCell worked (fit-kept-cell c ram j prev v delay _ _ _ h d) (record { voice = h; delay = d })

@@ -13,3 +13,4 @@ pub mod Turns
 pub mod Fits
 pub mod Lanes
 pub mod Ticks
+pub mod Drives

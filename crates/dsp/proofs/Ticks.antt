@@ -1,25 +1,30 @@
 -- A tick of the machine: what it keeps, and how its parts make the definition.
 use mathlib.Core.Bool.{Bool}
-use mathlib.Core.List.{List}
+use mathlib.Core.List.{List, [], _++_}
 use mathlib.Core.Path.{_≡_, refl, _∙_}
 use Prim.Native.Nat.{ℕ, _+_, _*_, _≤_, _<_}
 use native.Mathlib.Omega.{arith}
 use lib.IntN.{ℤ}
-use lib.ListN.{getD, set, length, length-set}
+use lib.ListN.{getD, set, take, drop, length, length-set}
+use Rattle.numbers.specs.Choice.{if_then_else_}
 use Rattle.numbers.proofs.Choice.{chosen}
 use Rattle.dsp.specs.Machine.{noVoice, apart, together}
 use Rattle.dsp.specs.Fit.{FitVoice, FitGlob, Fit}
 use Rattle.dsp.specs.Registers.{turns}
 use Rattle.dsp.specs.Mix.{bit}
-use Rattle.dsp.specs.Echo.{Echo, echoTick, echoWritten, echoStored}
-use Rattle.dsp.specs.Tick.{cellOf, putBytes, turned, Round, turn, voicesTick, globTick, sharedFrom, sharedOf, Bench, startOf, echoed, tickOf}
+use Rattle.dsp.specs.Sheet.{laneAt}
+use Rattle.dsp.specs.Echo.{Echo, EchoLane, echoTick, echoWritten, echoStored, echoFrom, echoLane, echoWorked, echoShown}
+use Rattle.dsp.specs.Lane.{Cell, ownCell, shownCell, putBytes, turned}
+use Rattle.dsp.specs.Tick.{Round, turn, voicesTick, globTick, sharedFrom, sharedOf, Ticked, mixed, tickOf, Bench, onward, benchTick, startOf}
 use Rattle.dsp.specs.declared.lane.Shared.{Shared}
 use Rattle.dsp.specs.declared.registers.Dsp.{Dsp}
 use Rattle.dsp.specs.declared.registers.Glob.{Glob}
+use Rattle.dsp.specs.declared.mix.Stereo.{Stereo}
+use Rattle.dsp.specs.declared.tick.Work.{Work}
 use Rattle.dsp.proofs.Turns.{turns-keep, set-keeps}
 use Rattle.dsp.proofs.Envelopes.{fit-kept-noise}
 use Rattle.dsp.proofs.Echoes.{fit-kept-echo}
-use Rattle.dsp.proofs.Lanes.{fit-kept-cell}
+use Rattle.dsp.proofs.Lanes.{fit-kept-either}
 
 -- ---- the voices
 
@@ -35,17 +40,15 @@ put-sized : (j envx : ℕ) (out : ℤ) (endx : Bool) (bytes : List ℕ) → leng
 unfolding putBytes
 put-sized j envx out endx bytes = simp length-set
 
-pub fit-kept-turn : (c : Shared) (ram : List ℕ) (j : ℕ) (r : Round) → j < 8 → RoundFit r → RoundFit (turn c ram j r)
+pub fit-kept-turn : (mask : ℕ) (old : List ℕ) (c : Shared) (ram : List ℕ) (j : ℕ) (r : Round) → j < 8 → RoundFit r → RoundFit (turn mask old c ram j r)
 unfolding turn turned
-fit-kept-turn c ram j r l h =
+fit-kept-turn mask old c ram j r l h =
     let v = getD (r .voices) j noVoice in
     let d = getD (r .delays) j 0 in
     let b = r .bytes in
-    let srcn = getD b (j * 16 + 4) 0 in
-    let envx = getD b (j * 16 + 8) 0 in
-    let endx = bit (getD b 0x7C 0) j in
-    let x = cellOf c ram j (r .acc .prev) v d srcn envx endx in
-    let k = fit-kept-cell c ram j (r .acc .prev) v d srcn envx endx (h .voices j l) (h .delays j l) in
+    let w = bit mask j in
+    let x : Cell = if w then ownCell c ram j (r .acc .prev) v d b else shownCell (laneAt j old) v d in
+    let k = fit-kept-either w c ram j (r .acc .prev) v d b (laneAt j old) (h .voices j l) (h .delays j l) in
     record {
       bytes = put-sized j (x .envx) (x .out) (x .endx) b ∙ h .bytes;
       count = length-set (r .voices) j (x .voice) ∙ h .count;
@@ -54,8 +57,8 @@ fit-kept-turn c ram j r l h =
       delays = λ n m. set-keeps (λ (e : ℕ). e ≤ 5) 0 (r .delays) j (x .delay) (k .delay) n (h .delays n m);
     }
 
-pub fit-kept-turns : (c : Shared) (ram : List ℕ) (n : ℕ) (r : Round) → n ≤ 8 → RoundFit r → RoundFit (turns (turn c ram) n r)
-fit-kept-turns c ram n r l h = turns-keep RoundFit (turn c ram) 8 (λ j s m k. fit-kept-turn c ram j s m k) n r l h
+pub fit-kept-turns : (mask : ℕ) (old : List ℕ) (c : Shared) (ram : List ℕ) (n : ℕ) (r : Round) → n ≤ 8 → RoundFit r → RoundFit (turns (turn mask old c ram) n r)
+fit-kept-turns mask old c ram n r l h = turns-keep RoundFit (turn mask old c ram) 8 (λ j s m k. fit-kept-turn mask old c ram j s m k) n r l h
 
 -- ---- the machine
 
@@ -78,40 +81,61 @@ written-sized : (g : Glob) (ram : List ℕ) (l r : ℤ) → length (echoWritten 
 unfolding echoWritten echoStored
 written-sized g ram l r = chosen (λ (xs : List ℕ). length xs ≡ length ram) (bit (g .flg) 5) refl (simp length-set)
 
+-- RAM keeps its length, and the echo's numbers stay fit
+pub record EchoFit (size : ℕ) (e : EchoLane) : Type 0 where
+  pub ram : length (e .echo .ram) ≡ size
+  pub glob : FitGlob (e .echo .glob)
+
+pub fit-kept-echo-lane : (worked : Bool) (g : Glob) (taps left right : List ℤ) (ram : List ℕ) (input : Stereo) (slot : List ℕ) → FitGlob g
+    → EchoFit (length ram) (echoLane worked g taps left right ram input slot)
+unfolding echoLane echoTick echoFrom
+fit-kept-echo-lane worked g taps left right ram input slot f =
+    chosen (EchoFit (length ram)) worked
+    (record { ram = written-sized _ _ _ _; glob = fit-kept-echo _ _ _ f })
+    (record {
+      ram = refl;
+      glob =
+          record {
+            counter = f .counter;
+            lfsr = f .lfsr;
+            delay = f .delay;
+            even = f .even;
+            pages = f .pages;
+            most = f .most;
+            pairs = f .pairs;
+            within = f .within;
+          };
+    })
+
 pub record BenchFit (b : Bench) : Type 0 where
   pub ram : length (b .ram) ≡ 0x10000
   pub round : RoundFit (startOf (b .parts))
   pub glob : FitGlob (b .parts .glob)
 
 -- the parts of a tick make it
-pub glued : (b : Bench) (h : Glob) (c : Shared) (r : Round) (e : Echo) → h ≡ globTick (b .parts .glob)
+pub glued : (w : Work) (b : Bench) (h : Glob) (c : Shared) (r : Round) (e : EchoLane) → h ≡ globTick (b .parts .glob)
     → c ≡ sharedFrom (b .parts .glob) (h .noise) (getD (b .parts .registers) 0x5C 0) (getD (b .parts .registers) 0x5D 0)
-    → r ≡ turns (turn c (b .ram)) 8 (startOf (b .parts))
-    → e ≡ echoTick h (b .parts .taps) (b .parts .left) (b .parts .right) (b .ram) (r .acc .input)
-    → echoed (b .parts .taps) r e ≡ tickOf b
-unfolding tickOf voicesTick globTick
-glued b h c r e eh ec er ee =
+    → r ≡ turns (turn (w .voices) (b .old) c (b .ram)) 8 (startOf (b .parts))
+    → e ≡ echoLane (w .echo) h (b .parts .taps) (b .parts .left) (b .parts .right) (b .ram) (r .acc .input) (laneAt 8 (b .old))
+    → onward b (mixed (b .parts .taps) r e) ≡ benchTick w b
+unfolding benchTick tickOf voicesTick globTick
+glued w b h c r e eh ec er ee =
     let p = b .parts in
     let ec′ = ec ∙ (λ i. sharedFrom (p .glob) (eh i .noise) (getD (p .registers) 0x5C 0) (getD (p .registers) 0x5D 0)) in
-    let er′ = er ∙ (λ i. turns (turn (ec′ i) (b .ram)) 8 (startOf p)) in
-    let ee′ = ee ∙ (λ i. echoTick (eh i) (p .taps) (p .left) (p .right) (b .ram) (er′ i .acc .input)) in
-    λ i. echoed (p .taps) (er′ i) (ee′ i)
+    let er′ = er ∙ (λ i. turns (turn (w .voices) (b .old) (ec′ i) (b .ram)) 8 (startOf p)) in
+    let ee′ = ee ∙ (λ i. echoLane (w .echo) (eh i) (p .taps) (p .left) (p .right) (b .ram) (er′ i .acc .input) (laneAt 8 (b .old))) in
+    λ i. onward b (mixed (p .taps) (er′ i) (ee′ i))
 
-pub fit-kept-bench : (b : Bench) → BenchFit b → BenchFit (tickOf b)
-unfolding tickOf voicesTick echoTick
-fit-kept-bench b h =
-    let c = sharedOf (b .parts .glob) (b .parts .registers) in
-    let r = fit-kept-turns c (b .ram) 8 (startOf (b .parts)) (omega arith) (h .round) in
+pub fit-kept-bench : (w : Work) (b : Bench) → BenchFit b → BenchFit (benchTick w b)
+unfolding benchTick tickOf voicesTick
+fit-kept-bench w b h =
+    let p = b .parts in
+    let c = sharedOf (p .glob) (p .registers) in
+    let t = turns (turn (w .voices) (b .old) c (b .ram)) 8 (startOf p) in
+    let r = fit-kept-turns (w .voices) (b .old) c (b .ram) 8 (startOf p) (omega arith) (h .round) in
+    let e = fit-kept-echo-lane (w .echo) (globTick (p .glob)) (p .taps) (p .left) (p .right) (b .ram) (t .acc .input) (laneAt 8 (b .old)) (glob-kept (p .glob) (h .glob)) in
     record {
-      ram = written-sized _ _ _ _ ∙ h .ram;
+      ram = e .ram ∙ h .ram;
       round = record { bytes = r .bytes; count = r .count; waits = r .waits; voices = r .voices; delays = r .delays };
-      glob = fit-kept-echo _ _ _ (glob-kept (b .parts .glob) (h .glob));
+      glob = e .glob;
     }
-
--- a tick of a fit record leaves a fit one; the arrays of a record of the language have these lengths
-pub fit-kept-tick : (d : Dsp) (ram : List ℕ) → length ram ≡ 0x10000 → length (d .registers) ≡ 128 → length (d .voices) ≡ 8 → length (d .«kon_delay») ≡ 8 → Fit d
-    → Fit (together (tickOf (record { parts = apart d; ram = ram }) .parts))
-fit-kept-tick d ram lr lb lv ld h =
-    let b : Bench = record { parts = apart d; ram = ram } in
-    let k = fit-kept-bench b (record { ram = lr; round = record { bytes = lb; count = lv; waits = ld; voices = h .voices; delays = h .delays }; glob = h .glob }) in
-    record { glob = k .glob; voices = k .round .voices; delays = k .round .delays }

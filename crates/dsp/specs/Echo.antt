@@ -1,14 +1,16 @@
 -- The echo: the pair at its pointer goes through the filter, and back into RAM with feedback.
+use mathlib.Core.Bool.{Bool}
 use mathlib.Core.List.{List}
 use Prim.Native.Nat.{ℕ, _+_, _*_}
 use lib.IntN.{ℤ}
-use lib.ListN.{set}
+use lib.ListN.{getD, set}
 use Rattle.numbers.specs.Choice.{if_then_else_, _≤?_, _=?_}
 use Rattle.numbers.specs.Signed.{lowZ, highZ}
 use Rattle.numbers.specs.Unsigned.{wrapped}
 use Rattle.sound.specs.Sound.{joined, fedBack, firOf, movedOn}
 use Rattle.dsp.specs.Brr.{byteAt}
 use Rattle.dsp.specs.Mix.{bit}
+use Rattle.dsp.specs.Sheet.{pairBytes}
 use Rattle.dsp.specs.declared.mix.Stereo.{Stereo}
 use Rattle.dsp.specs.declared.registers.Glob.{Glob}
 
@@ -43,9 +45,9 @@ pointerNext g =
     if lengthNow g ≤? g .«echo_ptr» + 4 then 0 else
     g .«echo_ptr» + 4
 
--- the echo's numbers after a tick that put out l and r
-unfoldable pub echoMoved : Glob → ℤ → ℤ → Glob
-echoMoved g l r =
+-- the echo's numbers in the place of those that stand: pointer, length, output
+abbrev pub withEcho : Glob → ℕ → ℕ → ℤ → ℤ → Glob
+withEcho g ptr len l r =
     record {
       «dir_base» = g .«dir_base»;
       «master_vol_left» = g .«master_vol_left»;
@@ -62,11 +64,15 @@ echoMoved g l r =
       eon = g .eon;
       esa = g .esa;
       edl = g .edl;
-      «echo_ptr» = pointerNext g;
-      «echo_len» = lengthNow g;
+      «echo_ptr» = ptr;
+      «echo_len» = len;
       «echo_out_l» = l;
       «echo_out_r» = r;
     }
+
+-- after a tick that put out l and r
+unfoldable pub echoMoved : Glob → ℤ → ℤ → Glob
+echoMoved g l r = withEcho g (pointerNext g) (lengthNow g) l r
 
 -- one side: its history moved on by what is read at byte k, and what the filter makes of it
 unfoldable pub historyNow : Glob → List ℕ → ℕ → List ℤ → List ℤ
@@ -90,3 +96,26 @@ echoTick g taps left right ram input =
       right = historyNow g ram 2 right;
       ram = echoWritten g ram (fedBack (input .l) (echoNow g ram 0 taps left) (g .efb)) (fedBack (input .r) (echoNow g ram 2 taps right) (g .efb));
     }
+
+-- ---- the echo's lane of the sheet
+
+-- the output as the sheet shows it, with pointer and length as they stand
+unfoldable pub echoFrom : List ℕ → Glob → Glob
+echoFrom slot g = withEcho g (g .«echo_ptr») (g .«echo_len») (joined (getD slot 0 0) (getD slot 1 0)) (joined (getD slot 2 0) (getD slot 3 0))
+
+pub record EchoLane : Type 0 where
+  pub echo : Echo
+  pub slot : List ℕ
+
+abbrev pub echoWorked : Echo → EchoLane
+echoWorked e = record { echo = e; slot = pairBytes (e .glob .«echo_out_l») (e .glob .«echo_out_r») }
+
+abbrev pub echoShown : Glob → List ℤ → List ℤ → List ℕ → List ℕ → EchoLane
+echoShown g left right ram slot =
+    record { echo = record { glob = echoFrom slot g; left = left; right = right; ram = ram }; slot = slot }
+
+-- the echo is worked, or its output is the sheet's
+unfoldable pub echoLane : Bool → Glob → List ℤ → List ℤ → List ℤ → List ℕ → Stereo → List ℕ → EchoLane
+echoLane worked g taps left right ram input slot =
+    if worked then echoWorked (echoTick g taps left right ram input) else
+    echoShown g left right ram slot

@@ -8,6 +8,8 @@ pub mod Envelope
 pub mod Noise
 pub mod Voice
 pub mod Mix
+pub mod Sheet
 pub mod Echo
+pub mod Lane
 pub mod Tick
 pub mod Readings

@@ -12,7 +12,7 @@ use Rattle.dsp.specs.Envelope.{envelopeTick}
 use Rattle.dsp.specs.Noise.{shifted}
 use Rattle.dsp.specs.Machine.{newVoice}
 use Rattle.dsp.specs.Voice.{pitchOf, samplesTaken, entryOf}
-use Rattle.dsp.specs.Tick.{playOf}
+use Rattle.dsp.specs.Lane.{playOf}
 use Rattle.dsp.specs.declared.adsr.EnvelopePhase.the-variants.{Decay}
 use Rattle.dsp.specs.declared.adsr.Envelope.{Envelope}
 use Rattle.dsp.specs.declared.play.Source.the-variants.{From}

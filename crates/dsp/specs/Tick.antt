@@ -1,278 +1,56 @@
--- One tick of the machine: poll, noise, voices 0 to 7, echo. What a voice depends on stands in `cellOf`.
-use mathlib.Core.Bool.{Bool, true, false, not, _&&_}
-use mathlib.Core.List.{List}
-use Prim.Native.Nat.{ℕ, zero, suc, _+_, _-_, _*_, _^_}
-use lib.Bits.{bitAnd, bitOr}
-use lib.IntN.{ℤ, pos}
-use lib.ListN.{getD, set, replicate, length}
+-- One tick of the machine: poll, noise, voices 0 to 7, echo, mix; and ticks one after another.
+use mathlib.Core.Bool.{Bool, true, not, _&&_}
+use mathlib.Core.List.{List, [], _++_}
+use Prim.Native.Nat.{ℕ, zero, suc}
+use lib.IntN.{ℤ}
+use lib.ListN.{getD, set, length, drop}
 use Rattle.numbers.specs.Choice.{if_then_else_, _=?_, _<?_}
-use Rattle.numbers.specs.Signed.{highZ}
-use Rattle.numbers.specs.Unsigned.{wrapped}
-use Rattle.sound.specs.Sound.{even}
-use Rattle.dsp.specs.Envelope.{isOff}
 use Rattle.dsp.specs.Machine.{noVoice, Parts, apart, together}
 use Rattle.dsp.specs.Fit.{fit}
 use Rattle.dsp.specs.Registers.{turns}
 use Rattle.dsp.specs.Noise.{noiseTick, noiseSample}
-use Rattle.dsp.specs.Voice.{Sounding, Stepped, entryOf, withSample, voiceStep}
-use Rattle.dsp.specs.Mix.{bit, scaledOutput, silent, heard}
-use Rattle.dsp.specs.Echo.{Echo, echoTick}
-use Rattle.dsp.specs.declared.adsr.EnvelopePhase.the-variants.{Attack, Release}
-use Rattle.dsp.specs.declared.adsr.Settings.{Settings}
+use Rattle.dsp.specs.Mix.{bit, masterOf}
+use Rattle.dsp.specs.Sheet.{pairBytes, laneAt}
+use Rattle.dsp.specs.Echo.{Echo, EchoLane, echoLane}
+use Rattle.dsp.specs.Lane.{newAcc, Landed, turned}
 use Rattle.dsp.specs.declared.voice.Voice.{Voice}
-use Rattle.dsp.specs.declared.play.Source.{Source}
-use Rattle.dsp.specs.declared.play.Source.the-variants.{Unmodulated, From}
-use Rattle.dsp.specs.declared.play.Play.{Play}
 use Rattle.dsp.specs.declared.noise.Noise.{Noise}
 use Rattle.dsp.specs.declared.lane.Shared.{Shared}
 use Rattle.dsp.specs.declared.lane.Acc.{Acc}
+use Rattle.dsp.specs.declared.mix.Stereo.{Stereo}
 use Rattle.dsp.specs.declared.registers.Dsp.{Dsp}
 use Rattle.dsp.specs.declared.registers.Glob.{Glob}
+use Rattle.dsp.specs.declared.tick.Work.{Work}
 
--- ---- a voice record as its settings, what a tick moves, and the samples of its block
+-- ---- the voices
 
-abbrev pub settingsOf : Voice → Settings
-settingsOf v =
-    record {
-      «adsr_mode» = v .adsr .«adsr_mode»;
-      «gain_param» = v .adsr .«gain_param»;
-      «attack_rate» = v .adsr .«attack_rate»;
-      «decay_rate» = v .adsr .«decay_rate»;
-      «sustain_level» = v .adsr .«sustain_level»;
-      «sustain_rate» = v .adsr .«sustain_rate»;
-    }
-
-abbrev pub playOf : Bool → Voice → Play
-playOf endx v =
-    record {
-      «key_on» = v .«key_on»;
-      envelope = record { level = v .adsr .«envelope_level»; phase = v .adsr .«envelope_phase»; counter = v .adsr .«tick_counter» };
-      addr = v .brr .addr;
-      «nibble_idx» = v .brr .«nibble_idx»;
-      «buffer_fill» = v .brr .«buffer_fill»;
-      prev1 = v .brr .prev1;
-      prev2 = v .brr .prev2;
-      «block_end» = v .brr .«block_end»;
-      «pitch_counter» = v .«pitch_counter»;
-      «current_sample» = v .«current_sample»;
-      history = v .history;
-      endx = endx;
-    }
-
-abbrev pub voiceOf : Voice → Play → List ℤ → Voice
-voiceOf v p samples =
-    record {
-      «left_vol» = v .«left_vol»;
-      «right_vol» = v .«right_vol»;
-      pitch = v .pitch;
-      srcn = v .srcn;
-      «key_on» = p .«key_on»;
-      «pitch_counter» = p .«pitch_counter»;
-      «current_sample» = p .«current_sample»;
-      history = p .history;
-      adsr =
-          record {
-            «adsr_mode» = v .adsr .«adsr_mode»;
-            «gain_param» = v .adsr .«gain_param»;
-            «attack_rate» = v .adsr .«attack_rate»;
-            «decay_rate» = v .adsr .«decay_rate»;
-            «sustain_level» = v .adsr .«sustain_level»;
-            «sustain_rate» = v .adsr .«sustain_rate»;
-            «envelope_level» = p .envelope .level;
-            «envelope_phase» = p .envelope .phase;
-            «tick_counter» = p .envelope .counter;
-          };
-      brr =
-          record {
-            addr = p .addr;
-            «nibble_idx» = p .«nibble_idx»;
-            prev1 = p .prev1;
-            prev2 = p .prev2;
-            «block_end» = p .«block_end»;
-            «sample_buffer» = samples;
-            «buffer_fill» = p .«buffer_fill»;
-          };
-    }
-
--- ---- the poll of one voice
-
--- KOFF: key_on clear, Release, only for a phase not Off
-unfoldable pub keyedOff : Bool → Play → Play
-keyedOff on p =
-    if on && not (isOff (p .envelope .phase)) then
-    record {
-      «key_on» = false;
-      envelope = record { level = p .envelope .level; phase = Release; counter = p .envelope .counter };
-      addr = p .addr;
-      «nibble_idx» = p .«nibble_idx»;
-      «buffer_fill» = p .«buffer_fill»;
-      prev1 = p .prev1;
-      prev2 = p .prev2;
-      «block_end» = p .«block_end»;
-      «pitch_counter» = p .«pitch_counter»;
-      «current_sample» = p .«current_sample»;
-      history = p .history;
-      endx = p .endx;
-    }
-    else p
-
--- KON: Attack, the directory address, and zeros in all else but the samples of the old block
-unfoldable pub keyedOn : Bool → ℕ → ℕ → Play → Play
-keyedOn on dir srcn p =
-    if on then
-    record {
-      «key_on» = true;
-      envelope = record { level = 0; phase = Attack; counter = 0 };
-      addr = wrapped (entryOf dir srcn);
-      «nibble_idx» = 0;
-      «buffer_fill» = 0;
-      prev1 = pos 0;
-      prev2 = pos 0;
-      «block_end» = false;
-      «pitch_counter» = 0;
-      «current_sample» = pos 0;
-      history = replicate 4 (pos 0);
-      endx = false;
-    }
-    else p
-
--- the poll tick is the first of five skipped ones
-abbrev pub delayOf : Bool → ℕ → ℕ
-delayOf on delay = if on then 5 else delay
-
--- ---- the voice's step, unless its key-on delay runs
-
-pub record Waiting : Type 0 where
-  pub play : Play
-  pub samples : List ℤ
-  pub delay : ℕ
-  pub envx : ℕ
-
-abbrev pub letStep : Stepped → Waiting
-letStep t = record { play = t .play; samples = t .samples; delay = 0; envx = t .envx }
-
--- a skipped tick sets ENVX to 0
-unfoldable pub waited : List ℕ → ℕ → ℕ → Settings → ℕ → Source → ℕ → ℕ → Sounding → Waiting
-waited ram dir srcn settings pitch x envx delay s =
-    if delay =? 0 then letStep (voiceStep ram dir srcn settings pitch x envx s) else
-    record { play = s .play; samples = s .samples; delay = delay - 1; envx = 0 }
-
--- NON replaces the sample after the voice step
-unfoldable pub noised : Bool → ℤ → Play → Play
-noised on x p = withSample p (if on then x else p .«current_sample»)
-
--- the pitch source: what the voice before gave this tick, where PMON selects it
-unfoldable pub sourceOf : ℕ → ℕ → ℤ → Source
-sourceOf pmon j prev =
-    if bit pmon j then From prev else
-    Unmodulated
-
--- ---- one lane
-
--- what a voice's tick gives: the voice, its delay, its scaled output, ENVX and ENDX
-pub record Cell : Type 0 where
-  pub voice : Voice
-  pub delay : ℕ
-  pub out : ℤ
-  pub envx : ℕ
-  pub endx : Bool
-
-abbrev pub cellFrom : Voice → Play → Waiting → Cell
-cellFrom v p w =
-    record {
-      voice = voiceOf v p (w .samples);
-      delay = w .delay;
-      out = scaledOutput (p .envelope .phase) (p .envelope .level) (p .«current_sample»);
-      envx = w .envx;
-      endx = p .endx;
-    }
-
--- after the poll: KOFF first, then KON
-unfoldable pub polledOf : Shared → ℕ → Voice → Bool → Play
-polledOf c j v endx = keyedOn (bit (c .kon) j) (c .«dir_base») (v .srcn) (keyedOff (bit (c .koff) j) (playOf endx v))
-
--- after the step or the delay: of what all see, RAM, its number, what the voice before gave, and its own record, delay, SRCN
--- and ENVX bytes, ENDX bit and samples
-unfoldable pub waitedOf : Shared → List ℕ → ℕ → ℤ → Voice → ℕ → ℕ → ℕ → Bool → List ℤ → Waiting
-waitedOf c ram j prev v delay srcn envx endx samples =
-    waited ram (c .dir) srcn (settingsOf v) (v .pitch) (sourceOf (c .pmon) j prev) envx (delayOf (bit (c .kon) j) delay)
-    (record { play = polledOf c j v endx; samples = samples })
-
--- NON, and the scaled output
-unfoldable pub cellAfter : Shared → ℕ → Voice → Waiting → Cell
-cellAfter c j v w = cellFrom v (noised (bit (c .non) j) (c .noise) (w .play)) w
-
-unfoldable pub cellOf : Shared → List ℕ → ℕ → ℤ → Voice → ℕ → ℕ → ℕ → Bool → Cell
-cellOf c ram j prev v delay srcn envx endx = cellAfter c j v (waitedOf c ram j prev v delay srcn envx endx (v .brr .«sample_buffer»))
-
--- ---- what a lane leaves
-
--- a byte with bit n as given
-unfoldable pub withBit : ℕ → ℕ → Bool → ℕ
-withBit x n on =
-    if on then bitOr x (2 ^ n) else
-    bitAnd x (255 - 2 ^ n)
-
--- the ENDX bit of voice j
-abbrev pub putEndx : ℕ → Bool → List ℕ → List ℕ
-putEndx j endx bytes = set bytes 0x7C (withBit (getD bytes 0x7C 0) j endx)
-
--- ENVX, OUTX, which is the output's top byte, and the ENDX bit
-unfoldable pub putBytes : ℕ → ℕ → ℤ → Bool → List ℕ → List ℕ
-putBytes j envx out endx bytes = putEndx j endx (set (set bytes (j * 16 + 8) envx) (j * 16 + 9) (highZ out))
-
-abbrev pub newAcc : Acc
-newAcc = record { prev = pos 0; dry = silent; input = silent }
-
--- the modulating output has bit 0 cleared, the dry one keeps it; the sums clamp after each voice
-unfoldable pub added : Bool → ℤ → ℤ → ℤ → Acc → Acc
-added echo out left right a =
-    record {
-      prev = even out;
-      dry = heard out left right (a .dry);
-      input = if echo then heard out left right (a .input) else (a .input);
-    }
-
-pub record Landed : Type 0 where
-  pub voice : Voice
-  pub delay : ℕ
-  pub out : ℤ
-  pub acc : Acc
-  pub bytes : List ℕ
-
-abbrev pub landed : Shared → ℕ → Acc → List ℕ → Cell → Landed
-landed c j a bytes x =
-    record {
-      voice = x .voice;
-      delay = x .delay;
-      out = x .out;
-      acc = added (bit (c .eon) j) (x .out) (x .voice .«left_vol») (x .voice .«right_vol») a;
-      bytes = putBytes j (x .envx) (x .out) (x .endx) bytes;
-    }
-
-unfoldable pub turned : Shared → List ℕ → ℕ → Voice → ℕ → Acc → List ℕ → Landed
-turned c ram j v delay a bytes =
-    landed c j a bytes
-    (cellOf c ram j (a .prev) v delay (getD bytes (j * 16 + 4) 0) (getD bytes (j * 16 + 8) 0) (bit (getD bytes 0x7C 0) j))
-
--- ---- the machine
-
--- what moves from voice to voice
+-- what moves from voice to voice, and the lanes of the sheet's row so far
 pub record Round : Type 0 where
   pub voices : List Voice
   pub delays : List ℕ
   pub bytes : List ℕ
   pub acc : Acc
+  pub row : List ℕ
 
 abbrev pub landing : ℕ → Round → Landed → Round
 landing j r x =
-    record { voices = set (r .voices) j (x .voice); delays = set (r .delays) j (x .delay); bytes = x .bytes; acc = x .acc }
+    record {
+      voices = set (r .voices) j (x .voice);
+      delays = set (r .delays) j (x .delay);
+      bytes = x .bytes;
+      acc = x .acc;
+      row = r .row ++ x .slot;
+    }
 
-unfoldable pub turn : Shared → List ℕ → ℕ → Round → Round
-turn c ram j r = landing j r (turned c ram j (getD (r .voices) j noVoice) (getD (r .delays) j 0) (r .acc) (r .bytes))
+-- voice j, worked where the mask has it; old: the sheet from this tick's row on, as it was found
+unfoldable pub turn : ℕ → List ℕ → Shared → List ℕ → ℕ → Round → Round
+turn mask old c ram j r =
+    landing j r (turned (bit mask j) c ram j (getD (r .voices) j noVoice) (getD (r .delays) j 0) (r .acc) (r .bytes) (laneAt j old))
 
-unfoldable pub voicesTick : Shared → List ℕ → Round → Round
-voicesTick c ram r = turns (turn c ram) 8 r
+unfoldable pub voicesTick : ℕ → List ℕ → Shared → List ℕ → Round → Round
+voicesTick mask old c ram r = turns (turn mask old c ram) 8 r
+
+-- ---- the globals
 
 -- KON and KOFF are polled on ticks 1, 3, 5 .. from `new`
 abbrev pub polls : Glob → Bool
@@ -321,42 +99,69 @@ sharedFrom g noise koff dir =
 abbrev pub sharedOf : Glob → List ℕ → Shared
 sharedOf g bytes = sharedFrom g (noiseTick (g .flg) (g .noise)) (getD bytes 0x5C 0) (getD bytes 0x5D 0)
 
-pub record Bench : Type 0 where
-  pub parts : Parts
-  pub ram : List ℕ
+-- ---- a tick
+
+-- every voice and the echo: what `step` and a run work
+abbrev pub everything : Work
+everything = record { voices = 0xFF; echo = true }
 
 abbrev pub startOf : Parts → Round
-startOf p = record { voices = p .voices; delays = p .delays; bytes = p .registers; acc = newAcc }
+startOf p = record { voices = p .voices; delays = p .delays; bytes = p .registers; acc = newAcc; row = [] }
 
-abbrev pub echoed : List ℤ → Round → Echo → Bench
-echoed taps r e =
+-- what a tick leaves: the parts, RAM, its sample and its row of the sheet
+pub record Ticked : Type 0 where
+  pub parts : Parts
+  pub ram : List ℕ
+  pub frame : List ℕ
+  pub row : List ℕ
+
+abbrev pub partsAfter : List ℤ → Round → Echo → Parts
+partsAfter taps r e =
+    record { registers = r .bytes; voices = r .voices; delays = r .delays; taps = taps; left = e .left; right = e .right; glob = e .glob }
+
+abbrev pub frameOf : Stereo → List ℕ
+frameOf s = pairBytes (s .l) (s .r)
+
+abbrev pub mixed : List ℤ → Round → EchoLane → Ticked
+mixed taps r e =
     record {
-      parts =
-          record {
-            registers = r .bytes;
-            voices = r .voices;
-            delays = r .delays;
-            taps = taps;
-            left = e .left;
-            right = e .right;
-            glob = e .glob;
-          };
-      ram = e .ram;
+      parts = partsAfter taps r (e .echo);
+      ram = e .echo .ram;
+      frame = frameOf (masterOf (e .echo .glob) (r .acc .dry));
+      row = r .row ++ e .slot;
     }
 
 -- the echo takes what the voices summed
-abbrev pub echoedFrom : Bench → Round → Bench
-echoedFrom b r =
-    echoed (b .parts .taps) r
-    (echoTick (globTick (b .parts .glob)) (b .parts .taps) (b .parts .left) (b .parts .right) (b .ram) (r .acc .input))
+abbrev pub mixedFrom : Bool → List ℕ → Parts → List ℕ → Round → Ticked
+mixedFrom worked old p ram r =
+    mixed (p .taps) r (echoLane worked (globTick (p .glob)) (p .taps) (p .left) (p .right) ram (r .acc .input) (laneAt 8 old))
 
-unfoldable pub tickOf : Bench → Bench
-tickOf b = echoedFrom b (voicesTick (sharedOf (b .parts .glob) (b .parts .registers)) (b .ram) (startOf (b .parts)))
+unfoldable pub tickOf : Work → List ℕ → Parts → List ℕ → Ticked
+tickOf w old p ram = mixedFrom (w .echo) old p ram (voicesTick (w .voices) old (sharedOf (p .glob) (p .registers)) ram (startOf p))
+
+-- ---- ticks one after another
+
+-- the parts, RAM, the samples and the rows so far, and the sheet as it was found from the next row on
+pub record Bench : Type 0 where
+  pub parts : Parts
+  pub ram : List ℕ
+  pub pcm : List ℕ
+  pub sheet : List ℕ
+  pub old : List ℕ
+
+abbrev pub onward : Bench → Ticked → Bench
+onward b t = record { parts = t .parts; ram = t .ram; pcm = b .pcm ++ t .frame; sheet = b .sheet ++ t .row; old = drop 36 (b .old) }
+
+unfoldable pub benchTick : Work → Bench → Bench
+benchTick w b = onward b (tickOf w (b .old) (b .parts) (b .ram))
 
 -- n ticks
-unfoldable pub ticksOf : ℕ → Bench → Bench
-ticksOf zero b = b
-ticksOf (suc n) b = tickOf (ticksOf n b)
+unfoldable pub ticksOf : Work → ℕ → Bench → Bench
+ticksOf w zero b = b
+ticksOf w (suc n) b = benchTick w (ticksOf w n b)
+
+abbrev pub benchOf : Dsp → List ℕ → List ℕ → Bench
+benchOf d ram old = record { parts = apart d; ram = ram; pcm = []; sheet = []; old = old }
 
 -- ---- the public step
 
@@ -365,8 +170,8 @@ pub record After : Type 0 where
   pub dsp : Dsp
   pub ram : List ℕ
 
-abbrev pub ticked : Bench → After
-ticked b = record { refusal = 0; dsp = together (b .parts); ram = b .ram }
+abbrev pub ticked : Ticked → After
+ticked t = record { refusal = 0; dsp = together (t .parts); ram = t .ram }
 
 abbrev pub refused : ℕ → Dsp → List ℕ → After
 refused n d ram = record { refusal = n; dsp = d; ram = ram }
@@ -375,5 +180,5 @@ refused n d ram = record { refusal = n; dsp = d; ram = ram }
 unfoldable pub stepOf : Dsp → List ℕ → After
 stepOf d ram =
     if length ram =? 0x10000 then
-    (if fit d then ticked (tickOf (record { parts = apart d; ram = ram })) else refused 2 d ram)
+    (if fit d then ticked (tickOf everything [] (apart d) ram) else refused 2 d ram)
     else refused 1 d ram

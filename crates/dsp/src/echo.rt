@@ -4,7 +4,8 @@ ghost use Prim.Native.Nat.{_<_};
 ghost use lib.ListN.{length};
 ghost use Rattle.dsp.specs.Fit.{FitGlob};
 ghost use Rattle.numbers.specs.Unsigned.{wrapped};
-ghost use Rattle.dsp.specs.Echo.{echoBase, echoRead, echoStored, echoWritten, lengthNow, pointerNext, echoMoved, Echo, echoTick};
+ghost use Rattle.dsp.specs.Sheet.{pairBytes};
+ghost use Rattle.dsp.specs.Echo.{echoBase, echoRead, echoStored, echoWritten, lengthNow, pointerNext, echoMoved, Echo, echoTick, echoFrom, EchoLane, echoLane};
 use crate::brr::ram_read8;
 use crate::mix::Stereo;
 use crate::mix::bit;
@@ -120,4 +121,54 @@ impl Glob {
             right: hr,
         }
     }
+
+    // The sheet's echo output in the place of the record's.
+    fn echo_from(mut self, slot: &[u8]) -> Self
+        requires { ⌜ length (now slot) ≡ 4 ⌝ }
+        ensures { λ r. ⌜ r ≡ echoFrom (now (slot .entry)) self ⌝ }
+    {
+        self.echo_out_l = sound::joined(slot[0], slot[1]);
+        self.echo_out_r = sound::joined(slot[2], slot[3]);
+        self
+    }
+
+    // The echo for one tick: worked, and then on the sheet; or shown from the sheet.
+    pub(crate) fn echo_lane(
+        self,
+        worked: bool,
+        taps: [i8; 8],
+        left: [i16; 8],
+        right: [i16; 8],
+        ram: &mut [u8],
+        input: Stereo,
+        slot: &mut [u8],
+    ) -> Echoed
+        requires { ⌜ (length (now ram) ≡ 0x10000) × FitGlob self × (length (now slot) ≡ 4) ⌝ }
+        ensures { λ x. ⌜ _≡_ {A = EchoLane} (record { echo = record { glob = x .glob; left = x .left; right = x .right; ram = now (ram .exit) }; slot = now (slot .exit) }) (echoLane worked self taps left right (now (ram .entry)) input (now (slot .entry))) ⌝ }
+    {
+        if worked {
+            let e = self.tick_echo(taps, left, right, ram, input);
+            let g = e.glob;
+            put_pair(slot, g.echo_out_l, g.echo_out_r);
+            e
+        } else {
+            let g = self.echo_from(slot);
+            Echoed {
+                glob: g,
+                left,
+                right,
+            }
+        }
+    }
+}
+
+// Left, right, 16 bits, low byte first.
+pub(crate) fn put_pair(slot: &mut [u8], l: i16, r: i16)
+    requires { ⌜ length (now slot) ≡ 4 ⌝ }
+    ensures { λ _. ⌜ now (slot .exit) ≡ pairBytes l r ⌝ }
+{
+    slot[0] = numbers::low(l);
+    slot[1] = numbers::high(l);
+    slot[2] = numbers::low(r);
+    slot[3] = numbers::high(r);
 }

@@ -8,7 +8,9 @@ ghost use Rattle.dsp.specs.Gauss.{weights};
 ghost use Rattle.dsp.specs.Envelope.{FitSettings};
 ghost use Rattle.dsp.specs.Fit.{FitVoice};
 ghost use Rattle.dsp.specs.Voice.{FitPlay};
-ghost use Rattle.dsp.specs.Tick.{playOf, settingsOf, voiceOf, polledOf, waitedOf, Cell, cellAfter, keyedOff, keyedOn, delayOf, Waiting, waited, noised, sourceOf, withBit, putBytes, newAcc, added, Landed, turned};
+ghost use Rattle.numbers.specs.Choice.{if_then_else_};
+ghost use Rattle.dsp.specs.Sheet.{laneBytes};
+ghost use Rattle.dsp.specs.Lane.{playOf, settingsOf, voiceOf, polledOf, waitedOf, Cell, cellAfter, ownCell, shownCell, keyedOff, keyedOn, delayOf, Waiting, waited, noised, sourceOf, withBit, putBytes, newAcc, added, Landed, turned};
 use crate::adsr::Adsr;
 use crate::adsr::Envelope;
 use crate::adsr::EnvelopePhase;
@@ -61,7 +63,6 @@ pub struct Celled {
 pub struct Turned {
     pub voice: Voice,
     pub delay: u8,
-    pub out: i16,
     pub acc: Acc,
 }
 
@@ -402,20 +403,20 @@ fn finished(v: Voice, c: Shared, j: usize, h: Held, samples: [i16; 16]) -> Celle
     }
 }
 
-// Voice j for one tick.
-pub(crate) fn lane(
+// Voice j, of its own bytes and ENDX bit.
+fn own_cell(
     v: Voice,
     delay: u8,
     c: Shared,
     j: usize,
-    acc: Acc,
+    prev: i16,
     table: &[i16],
     rates: &[u16],
     ram: &[u8],
-    bytes: &mut [u8],
-) -> Turned
+    bytes: &[u8],
+) -> Celled
     requires { ⌜ (now table ≡ weights) × (now rates ≡ periods) × (length (now ram) ≡ 0x10000) × (length (now bytes) ≡ 128) × (j < 8) × FitVoice v × (delay ≤ 5) ⌝ }
-    ensures { λ r. ⌜ _≡_ {A = Landed} (record { voice = r .voice; delay = r .delay; out = r .out; acc = r .acc; bytes = now (bytes .exit) }) (turned c (now (ram .entry)) j v delay acc (now (bytes .entry))) ⌝ }
+    ensures { λ r. ⌜ _≡_ {A = Cell} (record { voice = r .voice; delay = r .delay; out = r .out; envx = r .envx; endx = r .endx }) (ownCell c (now (ram .entry)) j prev v delay (now (bytes .entry))) ⌝ }
 {
     let srcn = bytes[j * 16 + 4];
     let envx = bytes[j * 16 + 8];
@@ -427,7 +428,7 @@ pub(crate) fn lane(
         delay,
         c,
         j,
-        acc.prev,
+        prev,
         srcn,
         envx,
         endx,
@@ -436,14 +437,103 @@ pub(crate) fn lane(
         ram,
         &mut samples,
     );
-    let x = finished(v, c, j, h, samples);
+    finished(v, c, j, h, samples)
+}
+
+// A voice that is not stepped: its lane of the sheet says what it gives.
+fn shown_cell(v: Voice, delay: u8, slot: &[u8]) -> Celled
+    requires { ⌜ length (now slot) ≡ 4 ⌝ }
+    ensures { λ r. ⌜ _≡_ {A = Cell} (record { voice = r .voice; delay = r .delay; out = r .out; envx = r .envx; endx = r .endx }) (shownCell (now (slot .entry)) v delay) ⌝ }
+{
+    Celled {
+        voice: v,
+        delay,
+        out: sound::joined(slot[0], slot[1]),
+        envx: slot[2],
+        endx: slot[3] % 2 == 1,
+    }
+}
+
+// A voice is worked, or shown from the sheet.
+fn cell(
+    v: Voice,
+    delay: u8,
+    c: Shared,
+    j: usize,
+    worked: bool,
+    prev: i16,
+    table: &[i16],
+    rates: &[u16],
+    ram: &[u8],
+    bytes: &[u8],
+    slot: &[u8],
+) -> Celled
+    requires { ⌜ (now table ≡ weights) × (now rates ≡ periods) × (length (now ram) ≡ 0x10000) × (length (now bytes) ≡ 128) × (j < 8) × FitVoice v × (delay ≤ 5) × (length (now slot) ≡ 4) ⌝ }
+    ensures { λ r. ⌜ _≡_ {A = Cell} (record { voice = r .voice; delay = r .delay; out = r .out; envx = r .envx; endx = r .endx }) (if worked then ownCell c (now (ram .entry)) j prev v delay (now (bytes .entry)) else shownCell (now (slot .entry)) v delay) ⌝ }
+{
+    if worked {
+        own_cell(v, delay, c, j, prev, table, rates, ram, bytes)
+    } else {
+        shown_cell(v, delay, slot)
+    }
+}
+
+fn flag(on: bool) -> u8
+    ensures { λ r. ⌜ r ≡ (if on then 1 else 0) ⌝ }
+{
+    if on { 1 } else { 0 }
+}
+
+// The lane of the sheet of a voice that was worked.
+fn put_slot(slot: &mut [u8], worked: bool, out: i16, envx: u8, endx: bool)
+    requires { ⌜ length (now slot) ≡ 4 ⌝ }
+    ensures { λ _. ⌜ now (slot .exit) ≡ (if worked then laneBytes out envx endx else now (slot .entry)) ⌝ }
+{
+    if worked {
+        slot[0] = numbers::low(out);
+        slot[1] = numbers::high(out);
+        slot[2] = envx;
+        slot[3] = flag(endx);
+    }
+}
+
+// Voice j for one tick.
+pub(crate) fn lane(
+    v: Voice,
+    delay: u8,
+    c: Shared,
+    j: usize,
+    worked: bool,
+    acc: Acc,
+    table: &[i16],
+    rates: &[u16],
+    ram: &[u8],
+    bytes: &mut [u8],
+    slot: &mut [u8],
+) -> Turned
+    requires { ⌜ (now table ≡ weights) × (now rates ≡ periods) × (length (now ram) ≡ 0x10000) × (length (now bytes) ≡ 128) × (j < 8) × FitVoice v × (delay ≤ 5) × (length (now slot) ≡ 4) ⌝ }
+    ensures { λ r. ⌜ _≡_ {A = Landed} (record { voice = r .voice; delay = r .delay; acc = r .acc; bytes = now (bytes .exit); slot = now (slot .exit) }) (turned worked c (now (ram .entry)) j v delay acc (now (bytes .entry)) (now (slot .entry))) ⌝ }
+{
+    let x = cell(
+        v,
+        delay,
+        c,
+        j,
+        worked,
+        acc.prev,
+        table,
+        rates,
+        ram,
+        bytes,
+        slot,
+    );
     put_bytes(bytes, j, x.envx, x.out, x.endx);
+    put_slot(slot, worked, x.out, x.envx, x.endx);
     let w = x.voice;
     let a = acc.added(bit(c.eon, j), x.out, w.left_vol, w.right_vol);
     Turned {
         voice: w,
         delay: x.delay,
-        out: x.out,
         acc: a,
     }
 }

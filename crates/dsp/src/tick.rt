@@ -1,18 +1,22 @@
 // The machine's tick: the record is taken apart once, driven through its ticks, and made again once.
 ghost use mathlib.Core.Path.{_≡_};
 ghost use mathlib.Core.Bool.{_&&_};
+ghost use mathlib.Core.List.{[]};
+ghost use Prim.Native.Nat.{_*_, _<_};
 ghost use lib.ListN.{length};
 ghost use Rattle.numbers.specs.Choice.{if_then_else_, _<?_};
 ghost use Rattle.dsp.specs.Clock.{periods};
 ghost use Rattle.dsp.specs.Noise.{FitNoise};
 ghost use Rattle.dsp.specs.Fit.{FitGlob, Fit};
 ghost use Rattle.dsp.specs.Machine.{apart, together};
-ghost use Rattle.dsp.specs.Tick.{polls, globTick, sharedFrom, Bench, ticksOf, After, stepOf};
+ghost use Rattle.dsp.specs.Tick.{polls, globTick, sharedFrom, Bench, benchOf, ticksOf, After, stepOf};
 use crate::adsr::rate_table;
+use crate::echo::put_pair;
 use crate::gauss::gauss_table;
 use crate::lane::Acc;
 use crate::lane::Shared;
 use crate::lane::lane;
+use crate::mix::bit;
 use crate::noise::Noise;
 use crate::registers::Answer;
 use crate::registers::Dsp;
@@ -20,6 +24,12 @@ use crate::registers::Glob;
 use crate::voice::Voice;
 
 const RAM_SIZE: usize = 0x10000;
+
+// Which lanes of the sheet a tick works: voices by their bits, and the echo. It shows the others as the sheet has them.
+pub struct Work {
+    pub voices: u8,
+    pub echo: bool,
+}
 
 impl Glob {
     // The poll comes on the ticks on which every_other_sample turns true, and uses up the pending KON.
@@ -114,10 +124,18 @@ impl Dsp {
         d
     }
 
-    // n ticks. The arrays are locals that are lent, so that nothing large is handed about in a tick.
-    pub(crate) fn drive(self, ram: &mut [u8], n: u32) -> Self
-        requires { ⌜ (length (now ram) ≡ 0x10000) × Fit self ⌝ }
-        ensures { λ r. ⌜ _≡_ {A = Bench} (record { parts = apart r; ram = now (ram .exit) }) (ticksOf n (record { parts = apart self; ram = now (ram .entry) })) ⌝ }
+    // n ticks, with their samples and their rows of the sheet. The arrays are locals that are lent, so that nothing
+    // large is handed about in a tick.
+    pub(crate) fn drive(
+        self,
+        work: Work,
+        ram: &mut [u8],
+        n: usize,
+        pcm: &mut [u8],
+        sheet: &mut [u8],
+    ) -> Self
+        requires { ⌜ (length (now ram) ≡ 0x10000) × Fit self × (n < 0x10000) × (length (now pcm) ≡ n * 4) × (length (now sheet) ≡ n * 36) ⌝ }
+        ensures { λ r. ⌜ _≡_ {A = Bench} (record { parts = apart r; ram = now (ram .exit); pcm = now (pcm .exit); sheet = now (sheet .exit); old = [] }) (ticksOf work n (benchOf self (now (ram .entry)) (now (sheet .entry)))) ⌝ }
     {
         let table = gauss_table();
         let rates = rate_table();
@@ -128,7 +146,7 @@ impl Dsp {
         let mut left = self.fir_history_l;
         let mut right = self.fir_history_r;
         let mut g = self.glob();
-        let mut i: u32 = 0;
+        let mut i: usize = 0;
         while i < n {
             let h = g.ticked(&rates);
             let c = g.shared(h.noise, bytes[0x5C], bytes[0x5D]);
@@ -136,17 +154,38 @@ impl Dsp {
             let mut v: usize = 0;
             while v < 8 {
                 let x = voices[v];
-                let t = lane(x, delays[v], c, v, acc, &table, &rates, ram, &mut bytes);
+                let at = i * 36 + v * 4;
+                let to = at + 4;
+                let worked = bit(work.voices, v);
+                let t = lane(
+                    x,
+                    delays[v],
+                    c,
+                    v,
+                    worked,
+                    acc,
+                    &table,
+                    &rates,
+                    ram,
+                    &mut bytes,
+                    &mut sheet[at..to],
+                );
                 let y = t.voice;
                 voices[v] = y;
                 delays[v] = t.delay;
                 acc = t.acc;
                 v += 1;
             }
-            let e = h.tick_echo(taps, left, right, ram, acc.input);
+            let at = i * 36 + 32;
+            let to = at + 4;
+            let e = h.echo_lane(work.echo, taps, left, right, ram, acc.input, &mut sheet[at..to]);
             g = e.glob;
             left = e.left;
             right = e.right;
+            let s = g.mastered(acc.dry);
+            let from = i * 4;
+            let end = from + 4;
+            put_pair(&mut pcm[from..end], s.l, s.r);
             i += 1;
         }
         self.with_parts(g, bytes, voices, delays, left, right)
@@ -163,7 +202,13 @@ impl Dsp {
             };
         }
         if self.is_fit() {
-            let d = self.drive(ram, 1);
+            let mut pcm = [0; 4];
+            let mut sheet = [0; 36];
+            let work = Work {
+                voices: 0xFF,
+                echo: true,
+            };
+            let d = self.drive(work, ram, 1, &mut pcm, &mut sheet);
             Answer { refusal: 0, dsp: d }
         } else {
             Answer {

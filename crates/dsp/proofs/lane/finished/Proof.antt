@@ -6,7 +6,7 @@ use lib.Signed.{mag}
 use mir.Syntax.{w16}
 use Rattle.numbers.proofs.Range.{landed}
 use Rattle.dsp.specs.Mix.{bit, scaledOutput}
-use Rattle.dsp.specs.Tick.{noised, Waiting, cellFrom, cellAfter}
+use Rattle.dsp.specs.Lane.{noised, Waiting, cellFrom, cellAfter}
 use Rattle.dsp.specs.declared.play.Play.{Play}
 use Rattle.dsp.proofs.lane.finished.Statement.{statement}
 use Rattle.dsp.proofs.lane.finished.Tie as tie

@@ -1,7 +1,7 @@
 -- KOFF, then KON.
 use borrow.Author.Needs.{needs}
 use mathlib.Core.Path.{_∙_}
-use Rattle.dsp.specs.Tick.{keyedOff, keyedOn, polledOf}
+use Rattle.dsp.specs.Lane.{keyedOff, keyedOn, polledOf}
 use Rattle.dsp.proofs.lane.polled.Statement.{statement}
 use Rattle.dsp.proofs.lane.polled.Tie as tie
 

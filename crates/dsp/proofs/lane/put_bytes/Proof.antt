@@ -7,7 +7,7 @@ use lib.ListN.{set, length-set}
 use mir.Syntax.{w16}
 use mir.ValLaws.{toZ-ofZ}
 use Rattle.numbers.specs.Signed.{highZ}
-use Rattle.dsp.specs.Tick.{putEndx, putBytes}
+use Rattle.dsp.specs.Lane.{putEndx, putBytes}
 use Rattle.dsp.proofs.lane.put_bytes.Statement.{statement}
 use Rattle.dsp.proofs.lane.put_bytes.Tie as tie
 

@@ -1,6 +1,6 @@
 -- By the bit.
 use borrow.Author.Needs.{needs}
-use Rattle.dsp.specs.Tick.{sourceOf}
+use Rattle.dsp.specs.Lane.{sourceOf}
 use Rattle.dsp.proofs.lane.source_of.Statement.{statement}
 use Rattle.dsp.proofs.lane.source_of.Tie as tie
 

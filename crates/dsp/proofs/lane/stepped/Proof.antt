@@ -3,7 +3,7 @@ use borrow.Author.Needs.{needs}
 use mathlib.Core.Path.{_∙_, ap}
 use mir.Syntax.{w16}
 use mir.ValLaws.{toZ-ofZ}
-use Rattle.dsp.specs.Tick.{sourceOf, delayOf, waited, waitedOf}
+use Rattle.dsp.specs.Lane.{sourceOf, delayOf, waited, waitedOf}
 use Rattle.dsp.proofs.Lanes.{settings-fit, polled-fit}
 use Rattle.dsp.proofs.lane.stepped.Statement.{statement}
 use Rattle.dsp.proofs.lane.stepped.Tie as tie

@@ -2,7 +2,7 @@
 use borrow.Author.Needs.{needs}
 use native.Mathlib.Nat.{one-mul, mod-eq-of-lt}
 use lib.Pow.{pow-lt}
-use Rattle.dsp.specs.Tick.{withBit}
+use Rattle.dsp.specs.Lane.{withBit}
 use Rattle.dsp.proofs.lane.with_bit.Statement.{statement}
 use Rattle.dsp.proofs.lane.with_bit.Tie as tie
 

@@ -6,7 +6,7 @@ use mir.ValLaws.{toZ-ofZ}
 use Rattle.sound.specs.Sound.{even}
 use Rattle.numbers.proofs.Range.{landed}
 use Rattle.dsp.specs.Mix.{heard}
-use Rattle.dsp.specs.Tick.{added}
+use Rattle.dsp.specs.Lane.{added}
 use Rattle.dsp.proofs.lane.Acc.added.Statement.{statement}
 use Rattle.dsp.proofs.lane.Acc.added.Tie as tie
 

@@ -1,6 +1,6 @@
 -- By the bit.
 use borrow.Author.Needs.{needs}
-use Rattle.dsp.specs.Tick.{noised}
+use Rattle.dsp.specs.Lane.{noised}
 use Rattle.dsp.proofs.play.Play.noised.Statement.{statement}
 use Rattle.dsp.proofs.play.Play.noised.Tie as tie
 

@@ -2,7 +2,7 @@
 use borrow.Author.Needs.{needs}
 use mathlib.Core.Path.{ap}
 use borrow.Author.Tests.{eq-eqb, ne-eqb}
-use Rattle.dsp.specs.Tick.{letStep, waited}
+use Rattle.dsp.specs.Lane.{letStep, waited}
 use Rattle.dsp.proofs.play.Play.waited.Statement.{statement}
 use Rattle.dsp.proofs.play.Play.waited.Tie as tie
 

@@ -1,42 +1,49 @@
--- After i ticks the parts are the definition's after i ticks; after v lanes, the round's after v turns. Each keeps what the next asks.
+-- After v lanes the round and its row are the definition's after v turns; after i ticks, parts, samples and rows are the definition's after i ticks.
+
 use borrow.Author.Needs.{needs}
-use mathlib.Core.Path.{_≡_, refl, sym, ap, _∙_, subst}
-use mathlib.Core.List.{List}
-use Prim.Native.Nat.{ℕ, _≤_, _<_, _-_}
+use mathlib.Core.List.{List, []}
+use mathlib.Core.Path.{_≡_, refl, sym, ap, subst, _∙_}
+use Prim.Native.Nat.{ℕ, _+_, _-_, _*_, _≤_, _<_}
 use native.Mathlib.Omega.{arith}
-use native.Mathlib.Numerals.{add-one}
 use lib.IntN.{ℤ}
-use lib.ListN.{length}
-use Rattle.dsp.specs.Machine.{apart}
+use lib.ListN.{length, getD, drop-of-length-le}
+use mir.Syntax.{w16}
+use borrow.Rule.Slice.PartMut.{midOf, mid-len}
+use Rattle.numbers.proofs.Range.{landed}
+use Rattle.numbers.proofs.Parts.{unwritten, all-written}
+use Rattle.dsp.specs.Machine.{noVoice, Parts, apart}
 use Rattle.dsp.specs.Fit.{FitGlob}
 use Rattle.dsp.specs.Noise.{FitNoise}
-use Rattle.dsp.specs.Registers.{turns}
-use Rattle.dsp.specs.Tick.{Round, turn, landing, Bench, tickOf, ticksOf}
+use Rattle.dsp.specs.Sheet.{pairBytes}
+use Rattle.dsp.specs.Lane.{turned}
+use Rattle.dsp.specs.Tick.{frameOf, ticksOf}
 use Rattle.dsp.specs.declared.voice.Voice.{Voice}
+use Rattle.dsp.specs.declared.lane.Acc.{Acc}
 use Rattle.dsp.specs.declared.registers.Glob.{Glob}
-use Rattle.dsp.proofs.Ticks.{RoundFit, BenchFit, glob-kept, glued, fit-kept-turn, fit-kept-bench}
+use Rattle.dsp.proofs.Ticks.{glob-kept}
+use Rattle.dsp.proofs.Drives.{roundOf, Lanes, lanes-first, lane-on, lanes-sized, benchAt, Driven, tick-on, sheet-sized, pcm-sized}
 use Rattle.dsp.proofs.registers.Dsp.drive.Statement.{statement}
 use Rattle.dsp.proofs.registers.Dsp.drive.Tie as tie
 
-abbrev bench : List ℕ → List Voice → List ℕ → List ℤ → List ℤ → List ℤ → Glob → List ℕ → Bench
-bench bytes voices delays taps left right g ram =
-    record { parts = record { registers = bytes; voices = voices; delays = delays; taps = taps; left = left; right = right; glob = g }; ram = ram }
+abbrev partsOf : List ℕ → List Voice → List ℕ → List ℤ → List ℤ → List ℤ → Glob → Parts
+partsOf bytes voices delays taps left right g = record { registers = bytes; voices = voices; delays = delays; taps = taps; left = left; right = right; glob = g }
 
 abbrev Inv-loop2 : tie.InvT-loop2
-Inv-loop2 self ram n table rates taps bytes₀ voices₀ delays₀ left right i h c acc₀ v₀ bytes voices delays acc v =
-    (v ≤ 8) × RoundFit (record { voices = voices; delays = delays; bytes = bytes; acc = acc })
-    × (_≡_ {A = Round} (record { voices = voices; delays = delays; bytes = bytes; acc = acc }) (turns (turn c ram) v (record { voices = voices₀; delays = delays₀; bytes = bytes₀; acc = acc₀ })))
+Inv-loop2 self work ram n pcm sheet₀ table rates taps bytes₀ voices₀ delays₀ left right i h c acc₀ v₀ sheet bytes voices delays acc v =
+    (v ≤ 8) × Lanes (work .voices) c ram sheet₀ (i * 36) (roundOf voices₀ delays₀ bytes₀ acc₀ []) v sheet voices delays bytes acc
 
 abbrev μ-loop2 : tie.MeasureT-loop2
-μ-loop2 self ram n table rates taps bytes₀ voices₀ delays₀ left right i h c acc₀ v₀ bytes voices delays acc v = 8 - v
+μ-loop2 self work ram n pcm sheet₀ table rates taps bytes₀ voices₀ delays₀ left right i h c acc₀ v₀ sheet bytes voices delays acc v =
+    8 - v
 
 abbrev Inv-loop : tie.InvT-loop
-Inv-loop self ram₀ n table rates taps bytes₀ voices₀ delays₀ left₀ right₀ g₀ i₀ ram bytes voices delays left right g i =
-    (i ≤ n) × BenchFit (bench bytes voices delays taps left right g ram)
-    × (bench bytes voices delays taps left right g ram ≡ ticksOf i (bench bytes₀ voices₀ delays₀ taps left₀ right₀ g₀ ram₀))
+Inv-loop self work ram₀ n pcm₀ sheet₀ table rates taps bytes₀ voices₀ delays₀ left₀ right₀ g₀ i₀ ram pcm sheet bytes voices delays left right g i =
+    (i ≤ n)
+    × Driven work pcm₀ sheet₀ (benchAt (partsOf bytes₀ voices₀ delays₀ taps left₀ right₀ g₀) ram₀ [] [] sheet₀) i pcm sheet (partsOf bytes voices delays taps left right g) ram
 
 abbrev μ-loop : tie.MeasureT-loop
-μ-loop self ram₀ n table rates taps bytes₀ voices₀ delays₀ left₀ right₀ g₀ i₀ ram bytes voices delays left right g i = n - i
+μ-loop self work ram₀ n pcm₀ sheet₀ table rates taps bytes₀ voices₀ delays₀ left₀ right₀ g₀ i₀ ram pcm sheet bytes voices delays left right g i =
+    n - i
 
 -- the arrays have the lengths of their types
 table-sized : (c : tie.After-gauss-table Inv-loop2 μ-loop2 Inv-loop μ-loop) → length (c .gauss-table .result) ≡ 512
@@ -48,102 +55,222 @@ rates-sized c = search needs
 bytes-sized : (c : tie.After-bytes Inv-loop2 μ-loop2 Inv-loop μ-loop) → length (c .bytes .result) ≡ 128
 bytes-sized c = search needs
 
-lanes-sized : (c : tie.After-lanes Inv-loop2 μ-loop2 Inv-loop μ-loop) → length (c .lanes .result) ≡ 8
-lanes-sized c = search needs
+voices-sized : (c : tie.After-lanes Inv-loop2 μ-loop2 Inv-loop μ-loop) → length (c .lanes .result) ≡ 8
+voices-sized c = search needs
 
 delays-sized : (c : tie.After-delays Inv-loop2 μ-loop2 Inv-loop μ-loop) → length (c .delays .result) ≡ 8
 delays-sized c = search needs
 
+-- the sheet has room for the row of this tick
+row-room : (c : tie.After-rates Inv-loop2 μ-loop2 Inv-loop μ-loop) → c .before .before .loop .i * 36 + 36 ≤ length (c .before .before .loop .sheet)
+row-room c =
+    let p = c .before .before .before .before .before .before .before .before .before .before .before .before .before .before .before .pre .4 in
+    let t = c .before .loop-test .taken in
+    let z = sheet-sized (c .before .before .loop .inv .1) (omega (arith, p, t)) in
+    omega (arith, p, t, z)
+
+-- and for each lane of it
+lane-room : (c : tie.After-x Inv-loop2 μ-loop2 Inv-loop μ-loop) → c .before .before .before .before .before .before .before .before .loop .i * 36 + c .before .before .loop2 .v * 4 + 4 ≤ length (c .before .before .loop2 .sheet)
+lane-room c =
+    let t : c .before .before .loop2 .v < 8 = c .before .loop2-test .taken in
+    let z = row-room (c .before .before .before .before .before .before) in
+    let y = lanes-sized (c .before .before .loop2 .inv .1) (omega (arith, t, z)) in
+    omega (arith, t, z, y)
+
+-- and for the echo's
+echo-room : (c : tie.After-echo-lane-arg Inv-loop2 μ-loop2 Inv-loop μ-loop) → c .before .before .before .before .before .before .before .before .loop .i * 36 + 32 + 4 ≤ length (c .before .before .loop2 .sheet)
+echo-room c =
+    let t = c .before .before .loop2 .inv .0 in
+    let z = row-room (c .before .before .before .before .before .before) in
+    let y = lanes-sized (c .before .before .loop2 .inv .1) (omega (arith, t, z)) in
+    omega (arith, z, y)
+
+-- the PCM has room for the sample of this tick
+sample-room : (c : tie.After-rates Inv-loop2 μ-loop2 Inv-loop μ-loop) → c .before .before .loop .i * 4 + 4 ≤ length (c .before .before .loop .pcm)
+sample-room c =
+    let p = c .before .before .before .before .before .before .before .before .before .before .before .before .before .before .before .pre .3 in
+    let t = c .before .loop-test .taken in
+    let z = pcm-sized (c .before .before .loop .inv .1) (omega (arith, p, t)) in
+    omega (arith, p, t, z)
+
 loop-holds : tie.Need-loop-holds Inv-loop2 μ-loop2 Inv-loop μ-loop
 unfolding ticksOf
-loop-holds c =
-    let h = c .before .before .before .before .before .before .before .before .before .before .pre .1 in (
+loop-holds c = let h = c .before .before .before .before .before .before .before .before .before .before .before .before .pre .1 in (
       search needs,
       record {
-        ram = c .before .before .before .before .before .before .before .before .before .before .pre .0;
-        round = record { bytes = bytes-sized (c .before .before .before .before .before); count = lanes-sized (c .before .before .before .before); waits = delays-sized (c .before .before .before); voices = rw (c .before .before .before .before .lanes .ensures) (h .voices); delays = rw (c .before .before .before .delays .ensures) (h .delays) };
-        glob = rw (c .glob .ensures) (h .glob);
+        samples = [];
+        rows = [];
+        fit =
+            record {
+              ram = c .before .before .before .before .before .before .before .before .before .before .before .before .pre .0;
+              round = record { bytes = bytes-sized (c .before .before .before .before .before); count = voices-sized (c .before .before .before .before); waits = delays-sized (c .before .before .before); voices = rw (c .before .before .before .before .lanes .ensures) (h .voices); delays = rw (c .before .before .before .delays .ensures) (h .delays) };
+              glob = rw (c .glob .ensures) (h .glob);
+            };
+        is = refl;
+        heard = unwritten _;
+        shown = unwritten _;
       },
-      refl,
     )
 
 ticked-requires : tie.Need-ticked-requires Inv-loop2 μ-loop2 Inv-loop μ-loop
-ticked-requires c κs =
-    (c .before .before .before .before .before .before .before .before .before .before .rate-table .ensures, c .before .before .loop .inv .1 .glob)
+ticked-requires c κs = (c .before .before .before .before .before .before .before .before .before .before .rate-table .ensures, c .before .before .loop .inv .1 .fit .glob)
+
+array-read-shared : tie.Need-array-read-shared Inv-loop2 μ-loop2 Inv-loop μ-loop
+array-read-shared c = omega (arith, c .before .before .before .loop .inv .1 .fit .round .bytes)
+
+array-read-shared-2 : tie.Need-array-read-shared-2 Inv-loop2 μ-loop2 Inv-loop μ-loop
+array-read-shared-2 c = omega (arith, c .before .before .before .loop .inv .1 .fit .round .bytes)
 
 shared-requires : tie.Need-shared-requires Inv-loop2 μ-loop2 Inv-loop μ-loop
-shared-requires c κs =
-    subst (λ (g : Glob). FitNoise (g .noise)) (sym (c .ticked .ensures)) (let k = glob-kept _ (c .before .before .before .loop .inv .1 .glob) in record { lfsr = k .lfsr; counter = k .counter })
+shared-requires c κs = subst (λ (g : Glob). FitNoise (g .noise)) (sym (c .ticked .ensures)) (let k = glob-kept _ (c .before .before .before .loop .inv .1 .fit .glob) in record { lfsr = k .lfsr; counter = k .counter })
 
 loop2-holds : tie.Need-loop2-holds Inv-loop2 μ-loop2 Inv-loop μ-loop
-unfolding turns
-loop2-holds c =
-    let r = c .before .before .before .before .before .loop .inv .1 .round in
-    (search needs, record { bytes = r .bytes; count = r .count; waits = r .waits; voices = r .voices; delays = r .delays }, refl)
+loop2-holds c = let s = c .before .before .before .before .before .loop in
+    let r = s .inv .1 .fit .round in
+    let z = row-room (c .before .before .before) in
+    (search needs, lanes-first _ _ _ (s .sheet) (s .i * 36) (s .voices) (s .delays) (s .bytes) (c .new .result) (omega (arith, z)) (record { bytes = r .bytes; count = r .count; waits = r .waits; voices = r .voices; delays = r .delays }))
+
+array-copy-out-x : tie.Need-array-copy-out-x Inv-loop2 μ-loop2 Inv-loop μ-loop
+array-copy-out-x c = omega (arith, c .before .loop2 .inv .1 .fit .count)
+
+mul-at : tie.Need-mul-at Inv-loop2 μ-loop2 Inv-loop μ-loop
+mul-at c = let p = c .before .before .before .before .before .before .before .before .before .before .before .before .before .before .before .before .before .before .before .before .before .pre .2 in let t = c .before .before .before .before .before .before .before .loop-test .taken in let u = c .before .loop2-test .taken in record { fits = omega (arith, p, t, u) }
+
+mul-at-2 : tie.Need-mul-at-2 Inv-loop2 μ-loop2 Inv-loop μ-loop
+mul-at-2 c = let p = c .before .before .before .before .before .before .before .before .before .before .before .before .before .before .before .before .before .before .before .before .before .pre .2 in let t = c .before .before .before .before .before .before .before .loop-test .taken in let u = c .before .loop2-test .taken in record { fits = omega (arith, p, t, u) }
+
+add-at : tie.Need-add-at Inv-loop2 μ-loop2 Inv-loop μ-loop
+add-at c = let p = c .before .before .before .before .before .before .before .before .before .before .before .before .before .before .before .before .before .before .before .before .before .pre .2 in let t = c .before .before .before .before .before .before .before .loop-test .taken in let u = c .before .loop2-test .taken in record { fits = omega (arith, p, t, u) }
+
+add-to : tie.Need-add-to Inv-loop2 μ-loop2 Inv-loop μ-loop
+add-to c = let p = c .before .before .before .before .before .before .before .before .before .before .before .before .before .before .before .before .before .before .before .before .before .pre .2 in let t = c .before .before .before .before .before .before .before .loop-test .taken in let u = c .before .loop2-test .taken in record { fits = omega (arith, p, t, u) }
+
+bit-requires : tie.Need-bit-requires Inv-loop2 μ-loop2 Inv-loop μ-loop
+bit-requires c κs = c .before .loop2-test .taken
+
+array-read-lane : tie.Need-array-read-lane Inv-loop2 μ-loop2 Inv-loop μ-loop
+array-read-lane c = omega (arith, c .before .before .before .loop2 .inv .1 .fit .waits, c .before .before .loop2-test .taken)
 
 slice-aggregate-lane : tie.Need-slice-aggregate-lane Inv-loop2 μ-loop2 Inv-loop μ-loop
-slice-aggregate-lane c =
-    sym (table-sized (c .before .before .before .before .before .before .before .before .before .before .before .before .before .before .before .before .before .before))
+slice-aggregate-lane c = sym (table-sized (c .before .before .before .before .before .before .before .before .before .before .before .before .before .before .before .before .before .before .before))
 
 slice-aggregate-lane-2 : tie.Need-slice-aggregate-lane-2 Inv-loop2 μ-loop2 Inv-loop μ-loop
-slice-aggregate-lane-2 c =
-    sym (rates-sized (c .before .before .before .before .before .before .before .before .before .before .before .before .before .before .before .before .before .before))
+slice-aggregate-lane-2 c = sym (rates-sized (c .before .before .before .before .before .before .before .before .before .before .before .before .before .before .before .before .before .before .before))
+
+slice-aggregate-lane-3 : tie.Need-slice-aggregate-lane-3 Inv-loop2 μ-loop2 Inv-loop μ-loop
+slice-aggregate-lane-3 c = sym (c .before .before .before .before .before .before .before .loop2 .inv .1 .fit .bytes)
+
+sub-lane : tie.Need-sub-lane Inv-loop2 μ-loop2 Inv-loop μ-loop
+sub-lane c = omega arith
+
+part-lane-start : tie.Need-part-lane-start Inv-loop2 μ-loop2 Inv-loop μ-loop
+part-lane-start c = omega arith
+
+part-lane-end : tie.Need-part-lane-end Inv-loop2 μ-loop2 Inv-loop μ-loop
+part-lane-end c = lane-room (c .before .before .before .before .before)
 
 lane-requires : tie.Need-lane-requires Inv-loop2 μ-loop2 Inv-loop μ-loop
-lane-requires c κs =
-    let r = c .before .before .before .before .before .before .loop2 .inv .1 in
-    let l : c .before .before .before .before .before .before .loop2 .v < 8 = c .before .before .before .before .before .loop2-test .taken in
-    (c .before .before .before .before .before .before .before .before .before .before .before .before .before .before .before .before .before .before .before .before .before .gauss-table .ensures, c .before .before .before .before .before .before .before .before .before .before .before .before .before .before .before .before .before .before .before .before .rate-table .ensures, c .before .before .before .before .before .before .before .before .before .before .before .before .loop .inv .1 .ram, r .bytes, l, r .voices _ l, r .delays _ l)
+lane-requires c κs = let l = c .before .before .before .before .before .before .before .before .loop2 in
+    let r = l .inv .1 .fit in
+    let t : l .v < 8 = c .before .before .before .before .before .before .before .loop2-test .taken in
+    let m = mid-len (c .before .before .before .before .before .before .before .before .before .before .before .before .before .before .loop .i * 36 + l .v * 4) (c .before .before .before .before .before .before .before .before .before .before .before .before .before .before .loop .i * 36 + l .v * 4 + 4) (l .sheet) (lane-room (c .before .before .before .before .before .before)) in
+    (c .before .before .before .before .before .before .before .before .before .before .before .before .before .before .before .before .before .before .before .before .before .before .before .gauss-table .ensures, c .before .before .before .before .before .before .before .before .before .before .before .before .before .before .before .before .before .before .before .before .before .before .rate-table .ensures, c .before .before .before .before .before .before .before .before .before .before .before .before .before .before .loop .inv .1 .fit .ram, r .bytes, t, r .voices _ t, r .delays _ t, m ∙ omega arith)
 
 array-set-from-voices : tie.Need-array-set-from-voices Inv-loop2 μ-loop2 Inv-loop μ-loop
-array-set-from-voices c =
-    omega (arith, c .before .before .before .before .before .before .before .before .before .loop2 .inv .1 .count, c .before .before .before .before .before .before .before .before .loop2-test .taken)
+array-set-from-voices c = omega (arith, c .before .before .before .before .before .before .before .before .before .before .before .before .before .loop2 .inv .1 .fit .count, c .before .before .before .before .before .before .before .before .before .before .before .before .loop2-test .taken)
 
 array-write-delays : tie.Need-array-write-delays Inv-loop2 μ-loop2 Inv-loop μ-loop
-array-write-delays c =
-    omega (arith, c .before .before .before .before .before .before .before .before .before .loop2 .inv .1 .waits, c .before .before .before .before .before .before .before .before .loop2-test .taken)
+array-write-delays c = omega (arith, c .before .before .before .before .before .before .before .before .before .before .before .before .before .loop2 .inv .1 .fit .waits, c .before .before .before .before .before .before .before .before .before .before .before .before .loop2-test .taken)
 
 loop2-again : tie.Need-loop2-again Inv-loop2 μ-loop2 Inv-loop μ-loop
-unfolding turns turn
-loop2-again c =
-    let l = c .before .before .before .before .before .before .before .before .before .before .loop2 in
-    let m : l .v < 8 = c .before .before .before .before .before .before .before .before .before .loop2-test .taken in
-    let r : Round = record { voices = l .voices; delays = l .delays; bytes = l .bytes; acc = l .acc } in
-    let e = ap (landing (l .v) r) (c .before .before .before .lane .ensures) in
-    (search needs, subst RoundFit (sym e) (fit-kept-turn _ _ (l .v) r m (l .inv .1)), rw add-one (e ∙ ap (turn _ _ (l .v)) (l .inv .2)))
+loop2-again c = let l = c .before .before .before .before .before .before .before .before .before .before .before .before .before .before .loop2 in
+    let i = c .before .before .before .before .before .before .before .before .before .before .before .before .before .before .before .before .before .before .before .before .loop .i in
+    let t : l .v < 8 = c .before .before .before .before .before .before .before .before .before .before .before .before .before .loop2-test .taken in
+    let at = i * 36 + l .v * 4 in
+    let m = mid-len at (at + 4) (l .sheet) (lane-room (c .before .before .before .before .before .before .before .before .before .before .before .before)) in
+    let e = c .before .before .before .before .before .lane .ensures ∙ (λ k. turned (c .before .before .before .before .before .before .before .before .before .before .before .bit .ensures k) (c .before .before .before .before .before .before .before .before .before .before .before .before .before .before .before .before .shared .result) (c .before .before .before .before .before .before .before .before .before .before .before .before .before .before .before .before .before .before .before .before .loop .ram) (l .v) (getD (l .voices) (l .v) noVoice) (getD (l .delays) (l .v) 0) (l .acc) (l .bytes) (midOf at (at + 4 - at) (l .sheet))) in
+    (search needs, lane-on _ _ _ _ (i * 36) _ (l .v) (l .sheet) (l .voices) (l .delays) (l .bytes) (l .acc) at (at + 4) _ (l .inv .1) t refl refl (m ∙ omega arith) e)
 
-tick-echo-requires : tie.Need-tick-echo-requires Inv-loop2 μ-loop2 Inv-loop μ-loop
-tick-echo-requires c κs =
-    (c .before .before .before .before .before .before .before .before .loop .inv .1 .ram, subst FitGlob (sym (c .before .before .before .before .before .ticked .ensures)) (glob-kept _ (c .before .before .before .before .before .before .before .before .loop .inv .1 .glob)))
+mul-at-3 : tie.Need-mul-at-3 Inv-loop2 μ-loop2 Inv-loop μ-loop
+mul-at-3 c = let p = c .before .before .before .before .before .before .before .before .before .before .before .before .before .before .before .before .before .before .before .before .pre .2 in let t = c .before .before .before .before .before .before .loop-test .taken in record { fits = omega (arith, p, t) }
+
+add-at-2 : tie.Need-add-at-2 Inv-loop2 μ-loop2 Inv-loop μ-loop
+add-at-2 c = let p = c .before .before .before .before .before .before .before .before .before .before .before .before .before .before .before .before .before .before .before .before .pre .2 in let t = c .before .before .before .before .before .before .loop-test .taken in record { fits = omega (arith, p, t) }
+
+add-to-2 : tie.Need-add-to-2 Inv-loop2 μ-loop2 Inv-loop μ-loop
+add-to-2 c = let p = c .before .before .before .before .before .before .before .before .before .before .before .before .before .before .before .before .before .before .before .before .pre .2 in let t = c .before .before .before .before .before .before .loop-test .taken in record { fits = omega (arith, p, t) }
+
+sub-echo-lane : tie.Need-sub-echo-lane Inv-loop2 μ-loop2 Inv-loop μ-loop
+sub-echo-lane c = omega arith
+
+part-echo-lane-start : tie.Need-part-echo-lane-start Inv-loop2 μ-loop2 Inv-loop μ-loop
+part-echo-lane-start c = omega arith
+
+part-echo-lane-end : tie.Need-part-echo-lane-end Inv-loop2 μ-loop2 Inv-loop μ-loop
+part-echo-lane-end c = echo-room c
+
+echo-lane-requires : tie.Need-echo-lane-requires Inv-loop2 μ-loop2 Inv-loop μ-loop
+echo-lane-requires c κs = let i = c .before .before .before .before .before .before .before .before .before .loop .i in
+    let m = mid-len (i * 36 + 32) (i * 36 + 32 + 4) (c .before .before .before .loop2 .sheet) (echo-room (c .before)) in
+    (c .before .before .before .before .before .before .before .before .before .loop .inv .1 .fit .ram, subst FitGlob (sym (c .before .before .before .before .before .before .ticked .ensures)) (glob-kept _ (c .before .before .before .before .before .before .before .before .before .loop .inv .1 .fit .glob)), m ∙ omega arith)
+
+sub-put-pair : tie.Need-sub-put-pair Inv-loop2 μ-loop2 Inv-loop μ-loop
+sub-put-pair c = omega arith
+
+part-put-pair-start : tie.Need-part-put-pair-start Inv-loop2 μ-loop2 Inv-loop μ-loop
+part-put-pair-start c = omega arith
+
+sample-fits : tie.Need-mul-from Inv-loop2 μ-loop2 Inv-loop μ-loop
+sample-fits c = let p = c .before .before .before .before .before .before .before .before .before .before .before .before .before .before .before .before .before .before .before .before .before .before .before .before .before .before .before .before .before .before .before .pre .2 in let t = c .before .before .before .before .before .before .before .before .before .before .before .before .before .before .before .before .before .loop-test .taken in record { fits = omega (arith, p, t) }
+
+sample-end-fits : tie.Need-add-end Inv-loop2 μ-loop2 Inv-loop μ-loop
+sample-end-fits c = let p = c .before .before .before .before .before .before .before .before .before .before .before .before .before .before .before .before .before .before .before .before .before .before .before .before .before .before .before .before .before .before .before .pre .2 in let t = c .before .before .before .before .before .before .before .before .before .before .before .before .before .before .before .before .before .loop-test .taken in record { fits = omega (arith, p, t) }
+
+part-put-pair-end : tie.Need-part-put-pair-end Inv-loop2 μ-loop2 Inv-loop μ-loop
+part-put-pair-end c = sample-room (c .before .before .before .before .before .before .before .before .before .before .before .before .before .before .before .before)
+
+put-pair-requires : tie.Need-put-pair-requires Inv-loop2 μ-loop2 Inv-loop μ-loop
+put-pair-requires c κs = let i = c .before .before .before .before .before .before .before .before .before .before .before .before .before .before .before .before .before .before .before .before .before .loop .i in
+    mid-len (i * 4) (i * 4 + 4) (c .before .before .before .before .before .before .before .before .before .before .before .before .before .before .before .before .before .before .before .before .before .loop .pcm) (sample-room (c .before .before .before .before .before .before .before .before .before .before .before .before .before .before .before .before .before .before .before)) ∙ omega arith
 
 add-i : tie.Need-add-i Inv-loop2 μ-loop2 Inv-loop μ-loop
-add-i c =
-    let l = c .before .before .before .before .before .before .before .before .before .before .before .before .before .loop-test .taken in let f = c .before .before .before .before .before .before .before .before .before .before .before .before .before .before .before .before .before .before .before .before .before .before .before .before .before .fits .n .fits in record { fits = omega arith }
+add-i c = let p = c .before .before .before .before .before .before .before .before .before .before .before .before .before .before .before .before .before .before .before .before .before .before .before .before .before .before .before .before .before .before .before .before .before .before .before .before .before .pre .2 in let t = c .before .before .before .before .before .before .before .before .before .before .before .before .before .before .before .before .before .before .before .before .before .before .before .loop-test .taken in record { fits = omega (arith, p, t) }
 
 loop-again : tie.Need-loop-again Inv-loop2 μ-loop2 Inv-loop μ-loop
-unfolding ticksOf
-loop-again c =
-    let l = c .before .before .before .before .before .before .before .before .before .before .before .before .before .before .loop in
-    let k = c .before .before .before .before .before .before .before .before .loop2 in
-    let b = bench (l .bytes) (l .voices) (l .delays) (c .before .before .before .before .before .before .before .before .before .before .before .before .before .before .before .before .before .before .before .before .before .before .before .before .before .args .self .«fir_coeff») (l .left) (l .right) (l .g) (l .ram) in
-    let r : Round = record { voices = k .voices; delays = k .delays; bytes = k .bytes; acc = k .acc } in
-    let n : k .v ≡ 8 = omega arith in
-    let s = k .inv .2 ∙ (λ i. turns (turn (c .before .before .before .before .before .before .before .before .before .before .shared .result) (l .ram)) (n i) (record { voices = l .voices; delays = l .delays; bytes = l .bytes; acc = c .before .before .before .before .before .before .before .before .before .new .ensures i })) in
-    let e = glued b _ _ r _ (c .before .before .before .before .before .before .before .before .before .before .before .ticked .ensures) (c .before .before .before .before .before .before .before .before .before .before .shared .ensures) s (c .before .before .before .before .before .tick-echo .ensures) in
-    (search needs, subst BenchFit (sym e) (fit-kept-bench b (l .inv .1)), rw add-one (e ∙ ap tickOf (l .inv .2)))
+loop-again c = let s = c .before .before .before .before .before .before .before .before .before .before .before .before .before .before .before .before .before .before .before .before .before .before .before .before .loop in
+    let l = c .before .before .before .before .before .before .before .before .before .before .before .before .before .before .before .before .before .before .loop2 in
+    let a = s .i * 36 + 32 in
+    let o = s .i * 4 in
+    let v : l .v ≡ 8 = omega (arith, c .before .before .before .before .before .before .before .before .before .before .before .before .before .before .before .before .before .loop2-test .left, l .inv .0) in
+    let w = subst (λ (k : ℕ). Lanes (c .before .before .before .before .before .before .before .before .before .before .before .before .before .before .before .before .before .before .before .before .before .before .before .before .before .before .before .before .before .before .before .before .before .before .before .before .before .args .work .voices) (c .before .before .before .before .before .before .before .before .before .before .before .before .before .before .before .before .before .before .before .before .shared .result) (s .ram) (s .sheet) (s .i * 36) (roundOf (s .voices) (s .delays) (s .bytes) (c .before .before .before .before .before .before .before .before .before .before .before .before .before .before .before .before .before .before .before .new .result) []) k (l .sheet) (l .voices) (l .delays) (l .bytes) (l .acc)) v (l .inv .1) in
+    let z = subst (λ (q : Acc). Lanes (c .before .before .before .before .before .before .before .before .before .before .before .before .before .before .before .before .before .before .before .before .before .before .before .before .before .before .before .before .before .before .before .before .before .before .before .before .before .args .work .voices) (c .before .before .before .before .before .before .before .before .before .before .before .before .before .before .before .before .before .before .before .before .shared .result) (s .ram) (s .sheet) (s .i * 36) (roundOf (s .voices) (s .delays) (s .bytes) q []) 8 (l .sheet) (l .voices) (l .delays) (l .bytes) (l .acc)) (c .before .before .before .before .before .before .before .before .before .before .before .before .before .before .before .before .before .before .before .new .ensures) w in
+    let m = mid-len a (a + 4) (l .sheet) (echo-room (c .before .before .before .before .before .before .before .before .before .before .before .before .before .before .before .before)) in
+    let sl = landed w16 {z = c .before .before .before .before .before .before .mastered .result .l} (c .before .before .before .before .struct-told .given .0 .1) in
+    let sr = landed w16 {z = c .before .before .before .before .before .before .mastered .result .r} (c .before .before .before .struct-told2 .given .1 .0 .1) in
+    let f = c .before .before .put-pair .ensures ∙ (λ k. pairBytes (sl k) (sr k)) ∙ ap frameOf (c .before .before .before .before .before .before .mastered .ensures) in
+    let t : s .i < c .before .before .before .before .before .before .before .before .before .before .before .before .before .before .before .before .before .before .before .before .before .before .before .before .before .before .before .before .before .before .before .before .before .before .before .before .before .args .n = c .before .before .before .before .before .before .before .before .before .before .before .before .before .before .before .before .before .before .before .before .before .before .before .loop-test .taken in
+    (omega (arith, t), tick-on _ _ _ _ (s .i) (s .pcm) (s .sheet) _ (s .ram) _ _ (l .sheet) (l .voices) (l .delays) (l .bytes) (l .acc) a (a + 4) o (o + 4) _ _ (s .inv .1) (c .before .before .before .before .before .before .before .before .before .before .before .before .before .before .before .before .before .before .before .before .before .ticked .ensures) (c .before .before .before .before .before .before .before .before .before .before .before .before .before .before .before .before .before .before .before .before .shared .ensures) z refl refl (m ∙ omega arith) (c .before .before .before .before .before .before .before .before .before .before .before .before .before .before .echo-lane .ensures) refl refl f)
 
 same-length : tie.Need-same-length Inv-loop2 μ-loop2 Inv-loop μ-loop
-same-length c =
-    c .before .before .loop .inv .1 .ram ∙ sym (c .before .before .before .before .before .before .before .before .before .before .before .before .before .pre .0)
+same-length c = c .before .before .loop .inv .1 .fit .ram ∙ sym (c .before .before .before .before .before .before .before .before .before .before .before .before .before .before .before .pre .0)
+
+same-length-2 : tie.Need-same-length-2 Inv-loop2 μ-loop2 Inv-loop μ-loop
+same-length-2 c = pcm-sized (c .before .before .loop .inv .1) (let p = c .before .before .before .before .before .before .before .before .before .before .before .before .before .before .before .pre .3 in let t = c .before .before .loop .inv .0 in omega (arith, p, t))
+
+same-length-3 : tie.Need-same-length-3 Inv-loop2 μ-loop2 Inv-loop μ-loop
+same-length-3 c = sheet-sized (c .before .before .loop .inv .1) (let p = c .before .before .before .before .before .before .before .before .before .before .before .before .before .before .before .pre .4 in let t = c .before .before .loop .inv .0 in omega (arith, p, t))
 
 returns : tie.Need-returns Inv-loop2 μ-loop2 Inv-loop μ-loop
-returns c =
-    let l = c .before .before .loop in
-    let a = c .before .before .before .before .before .before .before .before .before .before .before .before .before .args in
-    let n : l .i ≡ a .n = omega arith in
-    (λ k. record { parts = apart (c .with-parts .ensures k); ram = l .ram })
-    ∙ l .inv .2
-    ∙ (λ k. ticksOf (n k) (bench (c .before .before .before .before .before .before .before .before .bytes .ensures k) (c .before .before .before .before .before .before .before .lanes .ensures k) (c .before .before .before .before .before .before .delays .ensures k) (a .self .«fir_coeff») (a .self .«fir_history_l») (a .self .«fir_history_r») (c .before .before .before .glob .ensures k) (a .ram .now)))
+returns c = let l = c .before .before .loop in
+    let d = l .inv .1 in
+    let s = c .before .before .before .before .before .before .before .before .before .before .before .before .before .before .before in
+    let a = s .args in
+    let n : l .i ≡ a .n = omega (arith, c .before .loop-test .left, l .inv .0) in
+    let e₁ : l .i * 4 ≡ length (a .pcm .now) = omega (arith, n, s .pre .3) in
+    let e₂ : l .i * 36 ≡ length (a .sheet .now) = omega (arith, n, s .pre .4) in
+    (λ k. record { parts = apart (c .with-parts .ensures k); ram = l .ram; pcm = all-written (d .heard) e₁ k; sheet = all-written (d .shown) e₂ k; old = sym (drop-of-length-le (a .sheet .now) {i = l .i * 36} (omega (arith, e₂))) k })
+    ∙ d .is
+    ∙ (λ k. ticksOf (a .work) (n k) (benchAt (partsOf (c .before .before .before .before .before .before .before .before .bytes .ensures k) (c .before .before .before .before .before .before .before .lanes .ensures k) (c .before .before .before .before .before .before .delays .ensures k) (a .self .«fir_coeff») (a .self .«fir_history_l») (a .self .«fir_history_r») (c .before .before .before .glob .ensures k)) (a .ram .now) [] [] (a .sheet .now)))
 
 pub drive-spec : {M : Type 1} → statement M
 drive-spec =
@@ -162,17 +289,25 @@ drive-spec =
     loop-holds
     (λ c. search needs)
     ticked-requires
-    (λ c. omega (arith, c .before .before .before .loop .inv .1 .round .bytes))
-    (λ c. omega (arith, c .before .before .before .loop .inv .1 .round .bytes))
+    array-read-shared
+    array-read-shared-2
     shared-requires
     (λ c κs. search needs)
     loop2-holds
     (λ c. search needs)
-    (λ c. omega (arith, c .before .loop2 .inv .1 .count))
-    (λ c. omega (arith, c .before .before .loop2 .inv .1 .waits, c .before .loop2-test .taken))
+    array-copy-out-x
+    mul-at
+    mul-at-2
+    add-at
+    add-to
+    bit-requires
+    array-read-lane
     slice-aggregate-lane
     slice-aggregate-lane-2
-    (λ c. sym (c .before .before .before .before .before .before .loop2 .inv .1 .bytes))
+    slice-aggregate-lane-3
+    sub-lane
+    part-lane-start
+    part-lane-end
     lane-requires
     (λ c. search needs)
     array-set-from-voices
@@ -180,10 +315,25 @@ drive-spec =
     (λ c. search needs)
     (λ c. search needs)
     loop2-again
-    tick-echo-requires
+    mul-at-3
+    add-at-2
+    add-to-2
+    sub-echo-lane
+    part-echo-lane-start
+    part-echo-lane-end
+    echo-lane-requires
+    (λ c κs. search needs)
+    sample-fits
+    sample-end-fits
+    sub-put-pair
+    part-put-pair-start
+    part-put-pair-end
+    put-pair-requires
     add-i
-    (λ c. search needs)
+    (λ c. let t = c .before .before .before .before .before .before .before .before .before .before .before .before .before .before .before .before .before .before .before .before .before .before .before .loop-test .taken in omega (arith, t))
     loop-again
     (λ c κs. search needs)
     same-length
+    same-length-2
+    same-length-3
     returns)

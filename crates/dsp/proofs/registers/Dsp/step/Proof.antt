@@ -1,42 +1,52 @@
--- By the two refusals, in their order; then one tick of drive.
 use borrow.Author.Needs.{needs}
-use mathlib.Core.Path.{_≡_, sym, ap, _∙_}
-use native.Mathlib.Omega.{arith}
-use lib.ListN.{length}
-use borrow.Author.Tests.{eq-eqb, ne-eqb}
-use Rattle.dsp.specs.Tick.{ticked, ticksOf, stepOf}
-use Rattle.dsp.proofs.Fits.{fit-facts}
 use Rattle.dsp.proofs.registers.Dsp.step.Statement.{statement}
 use Rattle.dsp.proofs.registers.Dsp.step.Tie as tie
+use Rattle.dsp.proofs.registers.Dsp.step.Reads as reads
+use Rattle.dsp.proofs.registers.Dsp.step.Lts as lts
+use Rattle.dsp.proofs.registers.Dsp.drive.Reads as drive-reads
+use Rattle.dsp.proofs.registers.Dsp.is_fit.Reads as is-fit-reads
 
+-- src/tick.rt:199:13
 returns : tie.Need-returns
-unfolding stepOf
-returns c = rw (ne-eqb _ _ (c .if1 .taken))
+returns c = ?
 
+-- src/tick.rt:204:12
+is-fit-requires : tie.Need-is-fit-requires
+is-fit-requires c κs = search needs
+
+-- src/tick.rt:211:46
+slice-aggregate-drive : tie.Need-slice-aggregate-drive
+slice-aggregate-drive c = search needs
+
+-- src/tick.rt:211:56
+slice-aggregate-drive-2 : tie.Need-slice-aggregate-drive-2
+slice-aggregate-drive-2 c = search needs
+
+-- src/tick.rt:211:17
 drive-requires : tie.Need-drive-requires
-drive-requires c κs =
-    let e : length (c .before .before .before .before .before .args .ram .now) ≡ 0x10000 = omega (arith, c .before .before .before .if1 .left) in
-    (e, fit-facts _ (sym (c .before .before .is-fit .ensures) ∙ c .before .if2 .taken))
+drive-requires c κs = ?
 
+-- src/tick.rt:195:5
+same-length : tie.Need-same-length
+same-length c = search needs
+
+-- src/tick.rt:195:5
 returns-2 : tie.Need-returns-2
-unfolding stepOf ticksOf
-returns-2 c =
-    let e : length (c .before .before .before .before .before .before .before .before .args .ram .now) ≡ 0x10000 = omega (arith, c .before .before .before .before .before .before .if1 .left) in
-    rw (eq-eqb _ _ e, ← c .before .before .before .before .before .is-fit .ensures, c .before .before .before .before .if2 .taken) (ap ticked (c .before .before .drive .ensures))
+returns-2 c = ?
 
+-- src/tick.rt:195:5
 returns-3 : tie.Need-returns-3
-unfolding stepOf
-returns-3 c =
-    let e : length (c .before .before .before .before .args .ram .now) ≡ 0x10000 = omega (arith, c .before .before .if1 .left) in
-    rw (eq-eqb _ _ e, ← c .before .is-fit .ensures, c .if2 .left)
+returns-3 c = ?
 
 pub step-spec : {M : Type 1} → statement M
 step-spec =
     tie.close
     (tie.spec
     returns
-    (λ c κs. search needs)
+    is-fit-requires
+    slice-aggregate-drive
+    slice-aggregate-drive-2
     drive-requires
-    (λ c. search needs)
+    same-length
     returns-2
     returns-3)

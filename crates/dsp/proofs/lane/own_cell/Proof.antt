@@ -1,0 +1,47 @@
+-- The callees, with the read-backs removed; a fit voice has a level that keeps its output to 16 bits.
+use borrow.Author.Needs.{needs}
+use mathlib.Core.Path.{_∙_, sym, ap, subst}
+use Prim.Native.Nat.{_+_, _*_, _≤_}
+use lib.ListN.{getD}
+use mir.Syntax.{w16}
+use mir.ValLaws.{toZ-ofZ}
+use Rattle.dsp.specs.Lane.{Waiting, waitedOf, cellAfter, cellOf, ownCell}
+use Rattle.dsp.proofs.Lanes.{fit-kept-waited}
+use Rattle.dsp.proofs.lane.own_cell.Statement.{statement}
+use Rattle.dsp.proofs.lane.own_cell.Tie as tie
+
+-- the level after the step
+low : (c : tie.After-stepped) → c .stepped .result .play .envelope .level ≤ 0x800
+low c =
+    let s = c .before .before .before .before .before .before .before .before .before .before .before in
+    subst (λ (w : Waiting). w .play .envelope .level ≤ 0x800) (sym (c .stepped .ensures))
+    (fit-kept-waited _ _ _ _ _ _ _ _ _ _ (s .pre .5) (s .pre .6) .play .envelope .level)
+
+finished-requires : tie.Need-finished-requires
+finished-requires c κs = (c .before .before .before .before .before .before .before .before .before .before .before .before .pre .4, low (c .before))
+
+returns : tie.Need-returns
+unfolding ownCell cellOf
+returns c = let s = c .before .before .before .before .before .before .before .before .before .before .before .before .before in
+    let a = s .args in
+    let e = toZ-ofZ w16 (a .prev) (s .fits .prev) in
+    let w = c .before .before .stepped .ensures ∙ (λ i. waitedOf (a .c) (a .ram .now) (a .j) (e i) (a .v) (a .delay) (getD (a .bytes .now) (a .j * 16 + 4) 0) (getD (a .bytes .now) (a .j * 16 + 8) 0) (c .before .before .before .before .before .before .bit .ensures i) (c .before .before .before .before .samples .ensures i)) in
+    c .finished .ensures ∙ ap (cellAfter (a .c) (a .j) (a .v)) w
+
+pub own-cell-spec : {M : Type 1} → statement M
+own-cell-spec =
+    tie.close
+    (tie.spec
+    (λ c. search needs)
+    (λ c. search needs)
+    (λ c. search needs)
+    (λ c. search needs)
+    (λ c. search needs)
+    (λ c. search needs)
+    (λ c. search needs)
+    (λ c κs. search needs)
+    (λ c κs. search needs)
+    (λ c. search needs)
+    (λ c κs. search needs)
+    finished-requires
+    returns)

@@ -1,0 +1,22 @@
+-- Both outputs, as the callee joins them.
+use borrow.Author.Needs.{needs}
+use Rattle.dsp.specs.Echo.{withEcho, echoFrom}
+use Rattle.dsp.proofs.registers.Glob.echo_from.Statement.{statement}
+use Rattle.dsp.proofs.registers.Glob.echo_from.Tie as tie
+
+returns : tie.Need-returns
+unfolding echoFrom
+returns c = let g = c .before .before .before .before .before .before .before .args .self in
+    λ i. withEcho g (g .«echo_ptr») (g .«echo_len») (c .before .before .before .joined .ensures i) (c .joined2 .ensures i)
+
+pub echo-from-spec : {M : Type 1} → statement M
+echo-from-spec =
+    tie.close
+    (tie.spec
+    (λ c. search needs)
+    (λ c. search needs)
+    (λ c κs. search needs)
+    (λ c. search needs)
+    (λ c. search needs)
+    (λ c κs. search needs)
+    returns)

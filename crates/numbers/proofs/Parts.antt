@@ -1,0 +1,70 @@
+-- A slice that is lent in parts, one behind the other: what has been written stands before what was found.
+use mathlib.Core.Path.{_≡_, refl, sym, ap, subst, _∙_}
+use mathlib.Core.List.{List, [], _∷_, _++_, append-assoc, append-nil}
+use Prim.Native.Nat.{ℕ, _+_, _-_, _≤_}
+use native.Mathlib.Omega.{arith}
+use lib.ListN.{length, take, drop, length-append, length-drop, take-append-drop, drop-of-length-le}
+use lib.Seq.{length-take-le, take-at, drop-at, drop-drop, sets, sets-eq}
+use borrow.Rule.Slice.PartMut.{putMid, midOf, postOf}
+
+-- stores from 0 on that fill a list
+pub filled : {X : Type 0} (vs xs : List X) → length xs ≡ length vs → sets xs 0 vs ≡ vs
+filled {X} vs xs e = sets-eq vs xs 0 (omega arith) ∙ ap (λ (l : List X). vs ++ l) (drop-of-length-le xs {i = 0 + length vs} (omega arith)) ∙ append-nil vs
+
+-- the first `a` are those of `done`, the others as in `old`
+pub record Written {X : Type 0} (old new : List X) (a : ℕ) (done : List X) : Type 0 where
+  pub is : new ≡ done ++ drop a old
+  pub long : length done ≡ a
+
+pub unwritten : {X : Type 0} (old : List X) → Written old old 0 []
+unwritten old = record { is = refl; long = refl }
+
+-- written on from `a`, as it is found there
+pub written-to : {X : Type 0} (a : ℕ) (old : List X) → a ≤ length old → Written old old a (take a old)
+written-to a old h = record { is = sym (take-append-drop a old); long = length-take-le a old h }
+
+module _ {X : Type 0} {old new done : List X} {a : ℕ} (w : Written old new a done) where
+  pub done-is : take a new ≡ done
+  done-is = ap (take a) (w .is) ∙ take-at done (drop a old) a (w .long)
+
+  -- what is still to come
+  pub rest-is : drop a new ≡ drop a old
+  rest-is = ap (drop a) (w .is) ∙ drop-at done (drop a old) a (w .long)
+
+  pub rest-later : (b : ℕ) → a ≤ b → drop b new ≡ drop b old
+  rest-later b h =
+      let e : a + (b - a) ≡ b = omega arith in
+      sym (drop-drop (b - a) a new ∙ ap (λ (n : ℕ). drop n new) e) ∙ ap (drop (b - a)) rest-is ∙ drop-drop (b - a) a old ∙ ap (λ (n : ℕ). drop n old) e
+
+  -- a part that is lent is as it was found
+  pub part-found : (k : ℕ) → midOf a k new ≡ take k (drop a old)
+  part-found k = ap (take k) rest-is
+
+  -- and comes back written
+  pub part-written : (b : ℕ) (ys : List X) → a ≤ b → length ys ≡ b - a → Written old (putMid a (b - a) new ys) b (done ++ ys)
+  part-written b ys h l =
+      let e : a + (b - a) ≡ b = omega arith in
+      let p : postOf a (b - a) new ≡ drop b old = ap (drop (b - a)) rest-is ∙ drop-drop (b - a) a old ∙ ap (λ (n : ℕ). drop n old) e in
+      let d = w .long in
+      record {
+        is = (λ i. done-is i ++ (ys ++ p i)) ∙ sym (append-assoc done ys (drop b old));
+        long = length-append done ys ∙ omega arith;
+      }
+
+  pub sized : a ≤ length old → length new ≡ length old
+  sized h =
+      let d = w .long in
+      let r = length-drop a old in
+      ap (λ (l : List X). length l) (w .is) ∙ length-append done (drop a old) ∙ omega (arith, r)
+
+  -- all of it
+  pub all-written : a ≡ length old → new ≡ done
+  all-written e = w .is ∙ ap (λ (l : List X). done ++ l) (drop-of-length-le old {i = a} (omega arith)) ∙ append-nil done
+
+  -- written on from here
+  pub written-on : {next : List X} (b : ℕ) (zs : List X) → a ≤ b → Written new next b (take a new ++ zs) → Written old next b (done ++ zs)
+  written-on b zs h v =
+      record {
+        is = v .is ∙ (λ i. (done-is i ++ zs) ++ rest-later b h i);
+        long = sym (ap (λ (l : List X). length (l ++ zs)) done-is) ∙ v .long;
+      }
