@@ -139,7 +139,7 @@ tick-on w fp fs start i pcm sheet parts ram h c lanes voices delays bytes acc a 
     let e₀ : drop ((i + 1) * 36) fs ≡ drop 36 old = ap (λ (k : ℕ). drop k fs) n ∙ sym (drop-drop 36 (i * 36) fs) in
     let rows = d .rows ++ (l .row ++ x .slot) in
     let e₁ : benchAt (partsAfter (parts .taps) r (x .echo)) (x .echo .ram) (d .samples ++ pair) rows (drop ((i + 1) * 36) fs) ≡ onward b₀ (mixed (parts .taps) r x) =
-        (λ k. benchAt (partsAfter (parts .taps) r (x .echo)) (x .echo .ram) (d .samples ++ ep k) rows (e₀ k)) in
+    (λ k. benchAt (partsAfter (parts .taps) r (x .echo)) (x .echo .ram) (d .samples ++ ep k) rows (e₀ k)) in
     let e₂ = e₁ ∙ g in
     let p₁ = part-written v b (x .slot) (omega arith) (s ∙ omega arith) in
     let p₂ = subst (λ (z : List ℕ). Written sheet (putMid a (b - a) lanes (x .slot)) b z) (append-assoc (take (i * 36) sheet) (l .row) (x .slot)) p₁ in

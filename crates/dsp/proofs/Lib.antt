@@ -14,3 +14,4 @@ pub mod Fits
 pub mod Lanes
 pub mod Ticks
 pub mod Drives
+pub mod Whole

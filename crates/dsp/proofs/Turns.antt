@@ -1,5 +1,6 @@
 -- What turns and stores into a list keep.
 use mathlib.Core.List.{List, [], _∷_}
+use mathlib.Core.Path.{_≡_, refl, ap, _∙_}
 use Prim.Native.Nat.{ℕ, zero, suc, _≤_, _<_}
 use native.Mathlib.Omega.{arith}
 use lib.ListN.{getD, set}
@@ -11,6 +12,12 @@ pub turns-keep : {A : Type 0} (P : A → Type 0) (f : ℕ → A → A) (k : ℕ)
 unfolding turns
 turns-keep P f k h zero a l p = p
 turns-keep P f k h (suc n) a l p = h n (turns f n a) (omega arith) (turns-keep P f k h n a (omega arith) p)
+
+-- turns that are the same for each number below k
+pub turns-same : {A : Type 0} (f g : ℕ → A → A) (k : ℕ) → ((n : ℕ) (a : A) → n < k → f n a ≡ g n a) → (n : ℕ) (a : A) → n ≤ k → turns f n a ≡ turns g n a
+unfolding turns
+turns-same f g k h zero a l = refl
+turns-same f g k h (suc n) a l = ap (f n) (turns-same f g k h n a (omega arith)) ∙ h n (turns g n a) (omega arith)
 
 -- of the element at m, what it and the new one have in common; past the end nothing is stored
 pub set-keeps : {A : Type 0} (P : A → Type 0) (d : A) (xs : List A) (n : ℕ) (w : A) → P w → (m : ℕ) → P (getD xs m d) → P (getD (set xs n w) m d)

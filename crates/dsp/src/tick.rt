@@ -178,7 +178,15 @@ impl Dsp {
             }
             let at = i * 36 + 32;
             let to = at + 4;
-            let e = h.echo_lane(work.echo, taps, left, right, ram, acc.input, &mut sheet[at..to]);
+            let e = h.echo_lane(
+                work.echo,
+                taps,
+                left,
+                right,
+                ram,
+                acc.input,
+                &mut sheet[at..to],
+            );
             g = e.glob;
             left = e.left;
             right = e.right;

@@ -96,21 +96,21 @@ sample-room c =
 loop-holds : tie.Need-loop-holds Inv-loop2 μ-loop2 Inv-loop μ-loop
 unfolding ticksOf
 loop-holds c = let h = c .before .before .before .before .before .before .before .before .before .before .before .before .pre .1 in (
-      search needs,
-      record {
-        samples = [];
-        rows = [];
-        fit =
-            record {
-              ram = c .before .before .before .before .before .before .before .before .before .before .before .before .pre .0;
-              round = record { bytes = bytes-sized (c .before .before .before .before .before); count = voices-sized (c .before .before .before .before); waits = delays-sized (c .before .before .before); voices = rw (c .before .before .before .before .lanes .ensures) (h .voices); delays = rw (c .before .before .before .delays .ensures) (h .delays) };
-              glob = rw (c .glob .ensures) (h .glob);
-            };
-        is = refl;
-        heard = unwritten _;
-        shown = unwritten _;
-      },
-    )
+  search needs,
+  record {
+    samples = [];
+    rows = [];
+    fit =
+        record {
+          ram = c .before .before .before .before .before .before .before .before .before .before .before .before .pre .0;
+          round = record { bytes = bytes-sized (c .before .before .before .before .before); count = voices-sized (c .before .before .before .before); waits = delays-sized (c .before .before .before); voices = rw (c .before .before .before .before .lanes .ensures) (h .voices); delays = rw (c .before .before .before .delays .ensures) (h .delays) };
+          glob = rw (c .glob .ensures) (h .glob);
+        };
+    is = refl;
+    heard = unwritten _;
+    shown = unwritten _;
+  },
+)
 
 ticked-requires : tie.Need-ticked-requires Inv-loop2 μ-loop2 Inv-loop μ-loop
 ticked-requires c κs = (c .before .before .before .before .before .before .before .before .before .before .rate-table .ensures, c .before .before .loop .inv .1 .fit .glob)

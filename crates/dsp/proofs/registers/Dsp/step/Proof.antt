@@ -1,52 +1,46 @@
+-- By the two refusals, in their order; then one tick of drive, which works every lane.
 use borrow.Author.Needs.{needs}
+use mathlib.Core.List.{[]}
+use mathlib.Core.Path.{_≡_, refl, sym, ap, _∙_}
+use native.Mathlib.Omega.{arith}
+use lib.ListN.{length}
+use borrow.Author.Tests.{eq-eqb, ne-eqb}
+use Rattle.dsp.specs.Machine.{apart, together}
+use Rattle.dsp.specs.Tick.{Bench, After, ticked, benchTick, ticksOf, stepOf}
+use Rattle.dsp.proofs.Fits.{fit-facts}
+use Rattle.dsp.proofs.Whole.{tick-whole}
 use Rattle.dsp.proofs.registers.Dsp.step.Statement.{statement}
 use Rattle.dsp.proofs.registers.Dsp.step.Tie as tie
-use Rattle.dsp.proofs.registers.Dsp.step.Reads as reads
-use Rattle.dsp.proofs.registers.Dsp.step.Lts as lts
-use Rattle.dsp.proofs.registers.Dsp.drive.Reads as drive-reads
-use Rattle.dsp.proofs.registers.Dsp.is_fit.Reads as is-fit-reads
 
--- src/tick.rt:199:13
 returns : tie.Need-returns
-returns c = ?
+unfolding stepOf
+returns c = rw (ne-eqb _ _ (c .if1 .taken))
 
--- src/tick.rt:204:12
-is-fit-requires : tie.Need-is-fit-requires
-is-fit-requires c κs = search needs
-
--- src/tick.rt:211:46
-slice-aggregate-drive : tie.Need-slice-aggregate-drive
-slice-aggregate-drive c = search needs
-
--- src/tick.rt:211:56
-slice-aggregate-drive-2 : tie.Need-slice-aggregate-drive-2
-slice-aggregate-drive-2 c = search needs
-
--- src/tick.rt:211:17
 drive-requires : tie.Need-drive-requires
-drive-requires c κs = ?
+drive-requires c κs = let e : length (c .before .before .before .before .before .before .before .args .ram .now) ≡ 0x10000 = omega (arith, c .before .before .before .before .before .if1 .left) in
+    (e, fit-facts _ (sym (c .before .before .before .before .is-fit .ensures) ∙ c .before .before .before .if2 .taken), omega arith, refl, refl)
 
--- src/tick.rt:195:5
-same-length : tie.Need-same-length
-same-length c = search needs
-
--- src/tick.rt:195:5
 returns-2 : tie.Need-returns-2
-returns-2 c = ?
+unfolding stepOf ticksOf benchTick
+returns-2 c = let e : length (c .before .before .before .before .before .before .before .before .before .before .before .before .args .ram .now) ≡ 0x10000 = omega (arith, c .before .before .before .before .before .before .before .before .before .before .if1 .left) in
+    let a = c .before .before .before .before .before .before .before .before .before .before .before .before .args in
+    let after : Bench → After = (λ (b : Bench). record { refusal = 0; dsp = together (b .parts); ram = b .ram }) in
+    rw (eq-eqb _ _ e, ← c .before .before .before .before .before .before .before .before .before .is-fit .ensures, c .before .before .before .before .before .before .before .before .if2 .taken) (ap after (c .before .before .before .before .drive .ensures) ∙ ap ticked (tick-whole _ [] (apart (a .self)) (a .ram .now)))
 
--- src/tick.rt:195:5
 returns-3 : tie.Need-returns-3
-returns-3 c = ?
+unfolding stepOf
+returns-3 c = let e : length (c .before .before .before .before .args .ram .now) ≡ 0x10000 = omega (arith, c .before .before .if1 .left) in
+    rw (eq-eqb _ _ e, ← c .before .is-fit .ensures, c .if2 .left)
 
 pub step-spec : {M : Type 1} → statement M
 step-spec =
     tie.close
     (tie.spec
     returns
-    is-fit-requires
-    slice-aggregate-drive
-    slice-aggregate-drive-2
+    (λ c κs. search needs)
+    (λ c. search needs)
+    (λ c. search needs)
     drive-requires
-    same-length
+    (λ c. search needs)
     returns-2
     returns-3)
