@@ -1,6 +1,10 @@
-// The chip's formulas on samples and volumes: total functions of numbers, with no record and no RAM.
+// The chip's formulas and tables: total functions of numbers, with no record and no RAM.
 ghost use mathlib.Core.Path.{_≡_};
 ghost use Rattle.sound.specs.Sound.{even, joined, volumed, summed, mastered, fedBack, firTap, firSum, firOf, movedOn, to16};
+
+mod brr;
+
+pub use brr::decode_brr_nibble;
 
 // Bit 0 cleared.
 pub fn even(x: i16) -> i16
