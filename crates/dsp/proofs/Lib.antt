@@ -1,4 +1,3 @@
-pub mod Weights
 pub mod Blocks
 pub mod Envelopes
 pub mod Pitch

@@ -9,7 +9,6 @@ ghost use Rattle.dsp.specs.Fit.{FitGlob, Fit};
 ghost use Rattle.dsp.specs.Machine.{apart, together};
 ghost use Rattle.dsp.specs.Tick.{polls, globTick, sharedFrom, Bench, ticksOf, After, stepOf};
 use crate::adsr::rate_table;
-use crate::gauss::gauss_table;
 use crate::lane::Acc;
 use crate::lane::Shared;
 use crate::lane::lane;
@@ -18,6 +17,7 @@ use crate::registers::Answer;
 use crate::registers::Dsp;
 use crate::registers::Glob;
 use crate::voice::Voice;
+use sound::gauss_table;
 
 const RAM_SIZE: usize = 0x10000;
 

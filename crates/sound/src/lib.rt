@@ -3,8 +3,10 @@ ghost use mathlib.Core.Path.{_≡_};
 ghost use Rattle.sound.specs.Sound.{even, joined, volumed, summed, mastered, fedBack, firTap, firSum, firOf, movedOn, to16};
 
 mod brr;
+mod gauss;
 
 pub use brr::decode_brr_nibble;
+pub use gauss::gauss_table;
 
 // Bit 0 cleared.
 pub fn even(x: i16) -> i16
