@@ -3,12 +3,11 @@ ghost use mathlib.Core.Path.{_≡_};
 ghost use mathlib.Core.Bool.{_&&_};
 ghost use lib.ListN.{length};
 ghost use Rattle.numbers.specs.Choice.{if_then_else_, _<?_};
-ghost use Rattle.dsp.specs.Clock.{periods};
+ghost use Rattle.sound.specs.Clock.{periods};
 ghost use Rattle.dsp.specs.Noise.{FitNoise};
 ghost use Rattle.dsp.specs.Fit.{FitGlob, Fit};
 ghost use Rattle.dsp.specs.Machine.{apart, together};
 ghost use Rattle.dsp.specs.Tick.{polls, globTick, sharedFrom, Bench, ticksOf, After, stepOf};
-use crate::adsr::rate_table;
 use crate::lane::Acc;
 use crate::lane::Shared;
 use crate::lane::lane;
@@ -18,6 +17,7 @@ use crate::registers::Dsp;
 use crate::registers::Glob;
 use crate::voice::Voice;
 use sound::gauss_table;
+use sound::rate_table;
 
 const RAM_SIZE: usize = 0x10000;
 
