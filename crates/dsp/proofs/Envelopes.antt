@@ -1,19 +1,16 @@
 -- A tick keeps an envelope, and the noise, fit.
-use mathlib.Core.Bool.{Bool, _&&_, true}
-use mathlib.Core.List.{List, [], _∷_}
-use Prim.Native.Nat.{ℕ, zero, suc, _+_, _-_, _*_, _/_, _%_, _≤_, _<_}
+use Prim.Native.Nat.{ℕ, _+_, _-_, _*_, _/_, _%_, _≤_, _<_}
 use native.Mathlib.Omega.{arith}
 use native.Mathlib.Decide.{decLe, decLt}
-use lib.Dec.{T, leb, leb→le}
-use lib.ListN.{getD}
 use borrow.Author.Tests.{le-leb, lt-leb, lt-ltb, le-ltb}
-use Rattle.numbers.specs.Choice.{_≤?_, _<?_, _=?_}
-use Rattle.numbers.specs.Unsigned.{least}
-use Rattle.numbers.proofs.Range.{and-l, and-r}
-use Rattle.numbers.proofs.Choice.{chosen, least-le}
-use Rattle.dsp.specs.Clock.{periods, periodOf, tickDue}
-use Rattle.dsp.specs.Envelope.{FitEnvelope, FitSettings, counted, levelled, timed, risen, lowered, settled, fallenTo, faded, gained, ramped, gains, attackTick, decayTick, sustainTick, releaseTick, gainTick, phaseTick, envelopeTick}
-use Rattle.dsp.specs.Noise.{FitNoise, shifted, noiseTick}
+use Rattle.numbers.specs.Choice.{_≤?_, _=?_}
+use Rattle.numbers.proofs.Choice.{chosen}
+use Rattle.sound.specs.Clock.{periodOf}
+use Rattle.sound.specs.Envelope.{lowered, gained}
+use Rattle.sound.proofs.Bounds.{period-le, lowered-le, gained-le, shifted-le}
+use Rattle.dsp.specs.Clock.{tickDue}
+use Rattle.dsp.specs.Envelope.{FitEnvelope, FitSettings, counted, levelled, timed, risen, settled, fallenTo, faded, ramped, gains, attackTick, decayTick, sustainTick, releaseTick, gainTick, phaseTick, envelopeTick}
+use Rattle.dsp.specs.Noise.{FitNoise, noiseTick}
 use Rattle.dsp.specs.declared.adsr.EnvelopePhase.{EnvelopePhase}
 use Rattle.dsp.specs.declared.adsr.EnvelopePhase.the-variants.{Attack, Decay, Sustain, Release, Off}
 use Rattle.dsp.specs.declared.adsr.Envelope.{Envelope}
@@ -21,20 +18,7 @@ use Rattle.dsp.specs.declared.adsr.Settings.{Settings}
 use Rattle.dsp.specs.declared.adsr.Tick.{Tick}
 use Rattle.dsp.specs.declared.noise.Noise.{Noise}
 
--- ---- the clock: no period is above 2048, by one test of the table
-
-abbrev all-le : ℕ → List ℕ → Bool
-all-le m [] = true
-all-le m (x ∷ xs) = leb x m && all-le m xs
-
-each-le : (m : ℕ) (xs : List ℕ) → T (all-le m xs) → (i : ℕ) → getD xs i 0 ≤ m
-each-le m [] t i = omega arith
-each-le m (x ∷ xs) t zero = leb→le x m (and-l (leb x m) (all-le m xs) t)
-each-le m (x ∷ xs) t (suc i) = each-le m xs (and-r (leb x m) (all-le m xs) t) i
-
-pub period-le : (n : ℕ) → periodOf n ≤ 2048
-unfolding periodOf periods
-period-le n = each-le 2048 periods tt n
+-- ---- the clock
 
 pub counter-kept : (c n : ℕ) → c ≤ 2047 → tickDue c n .counter ≤ 2047
 unfolding tickDue
@@ -47,10 +31,6 @@ counter-kept c n h =
     ]
 
 -- ---- the envelope
-
-lowered-le : (l : ℕ) → lowered l ≤ l
-unfolding lowered
-lowered-le l = omega arith
 
 levelled-fit : (e : Envelope) (l : ℕ) → FitEnvelope e → l ≤ 0x800 → FitEnvelope (levelled e l)
 levelled-fit e l h k = record { level = k; counter = h .counter }
@@ -84,17 +64,6 @@ fallen-fit l e k h = chosen FitEnvelope (l =? 0) (record { level = omega arith; 
 faded-fit : (e : Envelope) → FitEnvelope e → FitEnvelope (faded e)
 faded-fit e h = let l = lowered-le (e .level) in let k = h .level in fallen-fit (lowered (e .level)) e (omega arith) h
 
-gained-le : (m l : ℕ) → l ≤ 0x800 → gained m l ≤ 0x800
-unfolding gained
-gained-le m l h =
-    let P : ℕ → Type 0 = λ (n : ℕ). n ≤ 0x800 in
-    let d = lowered-le l in
-    let a = least-le (l + 32) 0x7FF in
-    let b = least-le (l + 8) 0x7FF in
-    chosen P (m =? 0) (omega arith)
-    (chosen P (m =? 1) (omega arith)
-    (chosen P (m =? 2) (omega arith) (chosen P (l <? 0x600) (omega arith) (omega arith))))
-
 ramped-fit : (m : ℕ) (e : Envelope) → FitEnvelope e → FitEnvelope (ramped m e)
 ramped-fit m e h = levelled-fit e (gained m (e .level)) h (gained-le m (e .level) (h .level))
 
@@ -125,10 +94,6 @@ unfolding envelopeTick
 fit-kept-envelope s e g h = chosen FitEnvelope (gains (e .phase) s) (gain-fit s e h) (phase-fit (e .phase) s e g h)
 
 -- ---- the noise
-
-shifted-le : (r : ℕ) → r ≤ 0x7FFF → shifted r ≤ 0x7FFF
-unfolding shifted
-shifted-le r h = let P : ℕ → Type 0 = λ (n : ℕ). n + r / 2 ≤ 0x7FFF in chosen P (r % 2 =? r / 2 % 2) (omega arith) (omega arith)
 
 pub fit-kept-noise : (flg : ℕ) (n : Noise) → FitNoise n → FitNoise (noiseTick flg n)
 unfolding noiseTick

@@ -1,5 +1,3 @@
-pub mod Weights
-pub mod Nibbles
 pub mod Blocks
 pub mod Envelopes
 pub mod Pitch

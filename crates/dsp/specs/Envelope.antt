@@ -2,7 +2,7 @@
 use mathlib.Core.Bool.{Bool, true, false, not}
 use Prim.Native.Nat.{ℕ, _+_, _-_, _*_, _/_, _%_, _≤_}
 use Rattle.numbers.specs.Choice.{if_then_else_, _≤?_, _<?_, _=?_}
-use Rattle.numbers.specs.Unsigned.{least}
+use Rattle.sound.specs.Envelope.{lowered, gained}
 use Rattle.dsp.specs.Clock.{tickDue}
 use Rattle.dsp.specs.declared.adsr.EnvelopePhase.{EnvelopePhase}
 use Rattle.dsp.specs.declared.adsr.EnvelopePhase.the-variants.{Attack, Decay, Sustain, Release, Off}
@@ -42,10 +42,6 @@ risen by e =
     if 0x7FF ≤? e .level + by then record { level = 0x7FF; phase = Decay; counter = 0 } else
     levelled e (e .level + by)
 
--- minus (level >> 8) + 1, not below 0
-unfoldable pub lowered : ℕ → ℕ
-lowered level = level - (level / 0x100 + 1)
-
 -- at or below the target takes that value, may rise, starts Sustain with counter 0
 unfoldable pub settled : ℕ → Envelope → Envelope
 settled target e =
@@ -60,15 +56,6 @@ fallenTo level e =
 
 abbrev pub faded : Envelope → Envelope
 faded e = fallenTo (lowered (e .level)) e
-
--- GAIN's ramps, by bits 6-5 from 0 up
-unfoldable pub gained : ℕ → ℕ → ℕ
-gained mode level =
-    if mode =? 0 then level - 32 else
-    if mode =? 1 then lowered level else
-    if mode =? 2 then least (level + 32) 0x7FF else
-    if level <? 0x600 then least (level + 32) 0x7FF else
-    least (level + 8) 0x7FF
 
 abbrev pub ramped : ℕ → Envelope → Envelope
 ramped mode e = levelled e (gained mode (e .level))

@@ -1,8 +1,9 @@
--- Noise: the shift register and its clock.
-use Prim.Native.Nat.{ℕ, _+_, _*_, _/_, _%_, _≤_}
+-- Noise: the shift register under its clock.
+use Prim.Native.Nat.{ℕ, _*_, _%_, _≤_}
 use lib.IntN.{ℤ, pos}
-use Rattle.numbers.specs.Choice.{if_then_else_, _=?_}
+use Rattle.numbers.specs.Choice.{if_then_else_}
 use Rattle.numbers.specs.Signed.{cutZ}
+use Rattle.sound.specs.Noise.{shifted}
 use Rattle.dsp.specs.Clock.{tickDue}
 use Rattle.dsp.specs.declared.noise.Noise.{Noise}
 
@@ -10,10 +11,6 @@ use Rattle.dsp.specs.declared.noise.Noise.{Noise}
 pub record FitNoise (n : Noise) : Type 0 where
   pub lfsr : n .lfsr ≤ 0x7FFF
   pub counter : n .counter ≤ 2047
-
--- new bit 14 is bit 0 xor bit 1, rest >> 1
-unfoldable pub shifted : ℕ → ℕ
-shifted r = (if r % 2 =? r / 2 % 2 then 0 else 0x4000) + r / 2
 
 -- at the entry in FLG bits 4-0
 unfoldable pub noiseTick : ℕ → Noise → Noise

@@ -7,9 +7,9 @@ use lib.IntN.{ℤ, pos}
 use Rattle.numbers.specs.Signed.{minus}
 use Rattle.numbers.specs.Unsigned.{wrapped}
 use Rattle.sound.specs.Sound.{mastered}
-use Rattle.dsp.specs.Brr.{decodeNibble}
+use Rattle.sound.specs.Brr.{decodeNibble}
+use Rattle.sound.specs.Noise.{shifted}
 use Rattle.dsp.specs.Envelope.{envelopeTick}
-use Rattle.dsp.specs.Noise.{shifted}
 use Rattle.dsp.specs.Machine.{newVoice}
 use Rattle.dsp.specs.Voice.{pitchOf, samplesTaken, entryOf}
 use Rattle.dsp.specs.Lane.{playOf}

@@ -2,46 +2,11 @@
 // the state that a tick moves.
 ghost use mathlib.Core.Path.{_≡_};
 ghost use Prim.Native.Nat.{_≤_, _<_};
-ghost use Rattle.dsp.specs.Clock.{periods, tickDue};
+ghost use Rattle.sound.specs.Clock.{periods};
+ghost use Rattle.dsp.specs.Clock.{tickDue};
 ghost use Rattle.dsp.specs.Machine.{newAdsr};
 ghost use Rattle.dsp.specs.Fit.{fitAdsr};
-ghost use Rattle.dsp.specs.Envelope.{FitEnvelope, FitSettings, counted, levelled, risen, lowered, settled, fallenTo, gained, isOff, gains, attackTick, decayTick, sustainTick, releaseTick, gainTick, envelopeTick};
-
-// Ticks between two steps for each rate index. Index 0 never fires.
-const ENVELOPE_RATE_TABLE: [u16; 32] = [
-    0,
-    2048,
-    1536,
-    1280,
-    1024,
-    768,
-    640,
-    512,
-    384,
-    320,
-    256,
-    192,
-    160,
-    128,
-    96,
-    80,
-    64,
-    48,
-    40,
-    32,
-    24,
-    20,
-    16,
-    12,
-    10,
-    8,
-    6,
-    5,
-    4,
-    3,
-    2,
-    1,
-];
+ghost use Rattle.dsp.specs.Envelope.{FitEnvelope, FitSettings, counted, levelled, risen, settled, fallenTo, isOff, gains, attackTick, decayTick, sustainTick, releaseTick, gainTick, envelopeTick};
 
 pub enum EnvelopePhase {
     Attack,
@@ -114,13 +79,6 @@ impl Adsr {
     }
 }
 
-// The whole table, for a caller to keep in a local and lend.
-pub(crate) fn rate_table() -> [u16; 32]
-    ensures { λ r. ⌜ r ≡ periods ⌝ }
-{
-    ENVELOPE_RATE_TABLE
-}
-
 pub(crate) fn tick_due(rates: &[u16], counter: u16, entry: u8) -> Tick
     requires { ⌜ (now rates ≡ periods) × (counter ≤ 2047) × (entry < 32) ⌝ }
     ensures { λ r. ⌜ r ≡ tickDue counter entry ⌝ }
@@ -142,30 +100,6 @@ pub(crate) fn tick_due(rates: &[u16], counter: u16, entry: u8) -> Tick
             counter: counter + 1,
             due: false,
         }
-    }
-}
-
-// An exponential step, in proportion to the level.
-fn lowered(level: u16) -> u16
-    ensures { λ r. ⌜ r ≡ lowered level ⌝ }
-{
-    numbers::saturating_sub(level, level / 256 + 1)
-}
-
-// A level after a step of a GAIN ramp, by bits 6-5.
-fn gained(mode: u8, level: u16) -> u16
-    requires { ⌜ level ≤ 0x800 ⌝ }
-    ensures { λ r. ⌜ r ≡ gained mode level ⌝ }
-{
-    match mode {
-        0 => numbers::saturating_sub(level, 32),
-        1 => lowered(level),
-        2 => numbers::min(level + 32, 0x7FF),
-        _ => if level < 0x600 {
-            numbers::min(level + 32, 0x7FF)
-        } else {
-            numbers::min(level + 8, 0x7FF)
-        },
     }
 }
 
@@ -228,7 +162,7 @@ impl Envelope {
     fn settled(self, target: u16) -> Self
         ensures { λ r. ⌜ r ≡ settled target self ⌝ }
     {
-        let level = lowered(self.level);
+        let level = sound::lowered(self.level);
         if level <= target {
             Envelope {
                 level: target,
@@ -288,7 +222,7 @@ impl Envelope {
         let t = tick_due(rates, self.counter, s.sustain_rate);
         let e = self.counted(t.counter);
         if t.due {
-            e.fallen_to(lowered(e.level))
+            e.fallen_to(sound::lowered(e.level))
         } else {
             e
         }
@@ -312,7 +246,7 @@ impl Envelope {
             let t = tick_due(rates, self.counter, g % 32);
             let e = self.counted(t.counter);
             if t.due {
-                e.levelled(gained(g / 32 % 4, e.level))
+                e.levelled(sound::gained(g / 32 % 4, e.level))
             } else {
                 e
             }

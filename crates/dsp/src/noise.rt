@@ -1,26 +1,13 @@
 // Noise: the 15-bit shift register that all voices share, and its clock.
 ghost use mathlib.Core.Path.{_≡_};
-ghost use Prim.Native.Nat.{_≤_};
-ghost use Rattle.dsp.specs.Clock.{periods};
-ghost use Rattle.dsp.specs.Noise.{FitNoise, shifted, noiseTick, noiseSample};
+ghost use Rattle.sound.specs.Clock.{periods};
+ghost use Rattle.dsp.specs.Noise.{FitNoise, noiseTick, noiseSample};
 use crate::adsr::tick_due;
 
 // The Rust's noise_lfsr and noise_tick_counter.
 pub struct Noise {
     pub lfsr: u16,
     pub counter: u16,
-}
-
-// Taps at bit 0 and bit 1: their xor is fed in at bit 14 and the register moves down by one.
-fn shifted(lfsr: u16) -> u16
-    requires { ⌜ lfsr ≤ 0x7FFF ⌝ }
-    ensures { λ r. ⌜ r ≡ shifted lfsr ⌝ }
-{
-    if lfsr % 2 == lfsr / 2 % 2 {
-        lfsr / 2
-    } else {
-        0x4000 + lfsr / 2
-    }
 }
 
 impl Noise {
@@ -32,7 +19,7 @@ impl Noise {
         let t = tick_due(rates, self.counter, flg % 32);
         self.counter = t.counter;
         if t.due {
-            self.lfsr = shifted(self.lfsr);
+            self.lfsr = sound::shifted(self.lfsr);
             self
         } else {
             self

@@ -3,8 +3,8 @@
 ghost use mathlib.Core.Path.{_≡_};
 ghost use Prim.Native.Nat.{_<_, _≤_};
 ghost use lib.ListN.{length};
-ghost use Rattle.dsp.specs.Clock.{periods};
-ghost use Rattle.dsp.specs.Gauss.{weights};
+ghost use Rattle.sound.specs.Clock.{periods};
+ghost use Rattle.sound.specs.Gauss.{weights};
 ghost use Rattle.dsp.specs.Envelope.{FitSettings};
 ghost use Rattle.dsp.specs.Voice.{FitPlay, FitBlock, Sounding, Stepped, pitchOf, positionOf, muted, filled, placed, decodedAt, nextAddress, nextBlock, resolved, heard, takeOne, consume, idle, advanced, interpolated, voiceStep};
 use crate::adsr::Envelope;

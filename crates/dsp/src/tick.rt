@@ -5,14 +5,12 @@ ghost use mathlib.Core.List.{[]};
 ghost use Prim.Native.Nat.{_*_, _<_};
 ghost use lib.ListN.{length};
 ghost use Rattle.numbers.specs.Choice.{if_then_else_, _<?_};
-ghost use Rattle.dsp.specs.Clock.{periods};
+ghost use Rattle.sound.specs.Clock.{periods};
 ghost use Rattle.dsp.specs.Noise.{FitNoise};
 ghost use Rattle.dsp.specs.Fit.{FitGlob, Fit};
 ghost use Rattle.dsp.specs.Machine.{apart, together};
 ghost use Rattle.dsp.specs.Tick.{polls, globTick, sharedFrom, Bench, benchOf, ticksOf, After, stepOf};
-use crate::adsr::rate_table;
 use crate::echo::put_pair;
-use crate::gauss::gauss_table;
 use crate::lane::Acc;
 use crate::lane::Shared;
 use crate::lane::lane;
@@ -22,6 +20,8 @@ use crate::registers::Answer;
 use crate::registers::Dsp;
 use crate::registers::Glob;
 use crate::voice::Voice;
+use sound::gauss_table;
+use sound::rate_table;
 
 const RAM_SIZE: usize = 0x10000;
 

@@ -1,6 +1,7 @@
 -- What holds of both holds of the chosen one.
 use mathlib.Core.Bool.{Bool, true, false}
-use Prim.Native.Nat.{ℕ, _≤_, _<_}
+use mathlib.Core.Path.{_≡_}
+use Prim.Native.Nat.{ℕ, _+_, _≤_, _<_}
 use Rattle.numbers.specs.Choice.{if_then_else_}
 use Rattle.numbers.specs.Unsigned.{least}
 use native.Mathlib.Nat.{le-refl}
@@ -17,4 +18,19 @@ least-le a b =
     elim (decLe a b) [
       | yes e ↦ rw (le-leb _ _ e) e
       | no e ↦ let l : b < a = omega arith in rw (lt-leb _ _ l) (le-refl b)
+    ]
+
+pub least-top : (a b : ℕ) → b ≤ a → least a b ≡ b
+least-top a b h =
+    elim (decLe a b) [
+      | yes e ↦ rw (le-leb _ _ e) (omega arith)
+      | no e ↦ let l : b < a = omega arith in rw (lt-leb _ _ l)
+    ]
+
+-- a sum that is capped may be of a number that was capped before
+pub least-before : (a b k : ℕ) → least (least a k + b) k ≡ least (a + b) k
+least-before a b k =
+    elim (decLe a k) [
+      | yes e ↦ rw (le-leb _ _ e)
+      | no e ↦ rw (least-top a k (omega arith), least-top (k + b) k (omega arith), least-top (a + b) k (omega arith))
     ]

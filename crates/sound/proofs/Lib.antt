@@ -1,1 +1,4 @@
 pub mod Filter
+pub mod Nibbles
+pub mod Weights
+pub mod Bounds

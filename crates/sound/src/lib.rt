@@ -1,6 +1,18 @@
-// The chip's formulas on samples and volumes: total functions of numbers, with no record and no RAM.
+// The chip's formulas and tables: total functions of numbers, with no record and no RAM.
 ghost use mathlib.Core.Path.{_≡_};
 ghost use Rattle.sound.specs.Sound.{even, joined, volumed, summed, mastered, fedBack, firTap, firSum, firOf, movedOn, to16};
+
+mod adsr;
+mod brr;
+mod gauss;
+mod noise;
+
+pub use adsr::gained;
+pub use adsr::lowered;
+pub use adsr::rate_table;
+pub use brr::decode_brr_nibble;
+pub use gauss::gauss_table;
+pub use noise::shifted;
 
 // Bit 0 cleared.
 pub fn even(x: i16) -> i16

@@ -1,7 +1,8 @@
 -- By the period, which is read from the lent table.
 use borrow.Author.Needs.{needs}
 use borrow.Author.Tests.{le-leb, lt-leb, eq-eqb, ne-eqb}
-use Rattle.dsp.specs.Clock.{periods, periodOf, tickDue}
+use Rattle.sound.specs.Clock.{periods, periodOf}
+use Rattle.dsp.specs.Clock.{tickDue}
 use Rattle.dsp.proofs.adsr.tick_due.Statement.{statement}
 use Rattle.dsp.proofs.adsr.tick_due.Tie as tie
 

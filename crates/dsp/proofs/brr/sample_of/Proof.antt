@@ -6,7 +6,8 @@ use native.Mathlib.Omega.{arith}
 use mir.Syntax.{w8, w16}
 use mir.ValLaws.{toZ-pos, toZ-ofZ}
 use Rattle.numbers.proofs.Range.{landed}
-use Rattle.dsp.specs.Brr.{decodeNibble, sampleOf}
+use Rattle.sound.specs.Brr.{decodeNibble}
+use Rattle.dsp.specs.Brr.{sampleOf}
 use Rattle.dsp.proofs.brr.sample_of.Statement.{statement}
 use Rattle.dsp.proofs.brr.sample_of.Tie as tie
 

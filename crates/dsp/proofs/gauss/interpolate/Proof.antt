@@ -2,7 +2,7 @@
 use borrow.Author.Needs.{needs}
 use Rattle.numbers.proofs.Range.{Q, fits, reads, q-elem16}
 use Rattle.numbers.proofs.Clamp.{calls}
-use Rattle.dsp.proofs.Weights.{q-weight}
+use Rattle.sound.proofs.Weights.{q-weight}
 use Rattle.dsp.proofs.gauss.interpolate.Statement.{statement}
 use Rattle.dsp.proofs.gauss.interpolate.Tie as tie
 

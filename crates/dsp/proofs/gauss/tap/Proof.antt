@@ -1,8 +1,8 @@
 -- The entry of the lent table is the weight; the ranges are computed.
 use borrow.Author.Needs.{needs}
 use Rattle.numbers.proofs.Range.{fits, reads, q-by, quotes}
-use Rattle.dsp.specs.Gauss.{weights}
-use Rattle.dsp.proofs.Weights.{entry, q-weight}
+use Rattle.sound.specs.Gauss.{weights}
+use Rattle.sound.proofs.Weights.{entry, q-weight}
 use Rattle.dsp.proofs.gauss.tap.Statement.{statement}
 use Rattle.dsp.proofs.gauss.tap.Tie as tie
 

@@ -33,7 +33,7 @@ update-gain-spec =
     (λ c κs. search needs)
     (λ c κs. search needs)
     (λ c κs. search needs)
-    (λ c κs. rw (c .before .counted .ensures) (search needs))
+    (λ c κs. search needs)
     (λ c κs. search needs)
     returns
     returns-2

@@ -6,9 +6,9 @@ use mir.Syntax.{w32}
 use mir.Val.{toZ, ofZ}
 use Rattle.numbers.specs.Signed.{cutZ}
 use Rattle.numbers.proofs.Range.{fits, reads}
-use Rattle.dsp.proofs.Nibbles.{nibbles}
-use Rattle.dsp.proofs.brr.scaled.Statement.{statement}
-use Rattle.dsp.proofs.brr.scaled.Tie as tie
+use Rattle.sound.proofs.Nibbles.{nibbles}
+use Rattle.sound.proofs.brr.scaled.Statement.{statement}
+use Rattle.sound.proofs.brr.scaled.Tie as tie
 
 -- what n stands for
 n-is : (c : tie.After-cut4) → toZ w32 (ofZ w32 (c .cut4 .result)) ≡ cutZ 8 (c .before .args .nibble)

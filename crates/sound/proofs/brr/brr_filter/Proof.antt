@@ -3,8 +3,8 @@ use mathlib.Core.Path.{_≡_}
 use Prim.Native.Nat.{_%_}
 use native.Mathlib.Omega.{arith}
 use Rattle.numbers.proofs.Range.{quotes, fits, reads}
-use Rattle.dsp.proofs.brr.brr_filter.Statement.{statement}
-use Rattle.dsp.proofs.brr.brr_filter.Tie as tie
+use Rattle.sound.proofs.brr.brr_filter.Statement.{statement}
+use Rattle.sound.proofs.brr.brr_filter.Tie as tie
 
 returns-4 : tie.Need-returns-4
 returns-4 c =

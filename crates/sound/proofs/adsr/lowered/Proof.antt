@@ -1,8 +1,8 @@
 -- The difference that stops at 0.
 use borrow.Author.Needs.{needs}
-use Rattle.dsp.specs.Envelope.{lowered}
-use Rattle.dsp.proofs.adsr.lowered.Statement.{statement}
-use Rattle.dsp.proofs.adsr.lowered.Tie as tie
+use Rattle.sound.specs.Envelope.{lowered}
+use Rattle.sound.proofs.adsr.lowered.Statement.{statement}
+use Rattle.sound.proofs.adsr.lowered.Tie as tie
 
 returns : tie.Need-returns
 unfolding lowered

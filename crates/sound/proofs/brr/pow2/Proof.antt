@@ -1,9 +1,9 @@
 -- A power up to 4096.
 use borrow.Author.Needs.{needs}
 use Rattle.numbers.proofs.Range.{fits, quotes}
-use Rattle.dsp.proofs.Nibbles.{pow-small, pow-reads, q-pow2}
-use Rattle.dsp.proofs.brr.pow2.Statement.{statement}
-use Rattle.dsp.proofs.brr.pow2.Tie as tie
+use Rattle.sound.proofs.Nibbles.{pow-small, pow-reads, q-pow2}
+use Rattle.sound.proofs.brr.pow2.Statement.{statement}
+use Rattle.sound.proofs.brr.pow2.Tie as tie
 
 pub pow2-spec : {M : Type 1} → statement M
 pow2-spec =

@@ -16,7 +16,7 @@ use Rattle.numbers.specs.Signed.{minus, _>>_}
 use Rattle.numbers.proofs.Range.{Q, q-1, q-2, Law1, Law2, Within, and-l, and-r, q-is, q-at, bounded, quotes}
 use Rattle.numbers.proofs.Clamp.{calls}
 use Rattle.numbers.proofs.Choice.{chosen}
-use Rattle.dsp.specs.Brr.{scaledZ, filterZ}
+use Rattle.sound.specs.Brr.{scaledZ, filterZ}
 
 -- ---- the power of a shift
 

@@ -2,9 +2,9 @@
 use borrow.Author.Needs.{needs}
 use native.Mathlib.Omega.{arith}
 use borrow.Author.Tests.{eq-eqb, ne-eqb}
-use Rattle.dsp.specs.Noise.{shifted}
-use Rattle.dsp.proofs.noise.shifted.Statement.{statement}
-use Rattle.dsp.proofs.noise.shifted.Tie as tie
+use Rattle.sound.specs.Noise.{shifted}
+use Rattle.sound.proofs.noise.shifted.Statement.{statement}
+use Rattle.sound.proofs.noise.shifted.Tie as tie
 
 returns : tie.Need-returns
 unfolding shifted

@@ -9,7 +9,7 @@ use lib.ListN.{getD}
 use lib.Signed.{leZ, _≤ℤ_, leZ-yes, ≤ℤ-refl}
 use Rattle.numbers.proofs.Range.{Q, Within, q-at}
 use Rattle.numbers.proofs.Table.{each, table-within, order-at, ≤ℤ-trans}
-use Rattle.dsp.specs.Gauss.{weights, weightAt}
+use Rattle.sound.specs.Gauss.{weights, weightAt}
 
 pub weight-within : (i : ℕ) → Within 1833 (weightAt i)
 unfolding weightAt weights

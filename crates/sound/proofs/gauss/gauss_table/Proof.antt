@@ -1,8 +1,8 @@
 -- The table, entry by entry.
 use mathlib.Core.Path.{refl}
-use Rattle.dsp.specs.Gauss.{weights}
-use Rattle.dsp.proofs.gauss.gauss_table.Statement.{statement}
-use Rattle.dsp.proofs.gauss.gauss_table.Tie as tie
+use Rattle.sound.specs.Gauss.{weights}
+use Rattle.sound.proofs.gauss.gauss_table.Statement.{statement}
+use Rattle.sound.proofs.gauss.gauss_table.Tie as tie
 
 returns : tie.Need-returns
 unfolding weights

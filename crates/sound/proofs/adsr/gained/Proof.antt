@@ -1,9 +1,9 @@
 -- By the mode.
 use borrow.Author.Needs.{needs}
 use borrow.Author.Tests.{lt-ltb, le-ltb, ne-eqb}
-use Rattle.dsp.specs.Envelope.{gained}
-use Rattle.dsp.proofs.adsr.gained.Statement.{statement}
-use Rattle.dsp.proofs.adsr.gained.Tie as tie
+use Rattle.sound.specs.Envelope.{gained}
+use Rattle.sound.proofs.adsr.gained.Statement.{statement}
+use Rattle.sound.proofs.adsr.gained.Tie as tie
 
 returns : tie.Need-returns
 unfolding gained
@@ -15,19 +15,19 @@ returns-2 c = rw (c .before .match .keys2) (c .lowered .ensures)
 
 returns-3 : tie.Need-returns-3
 unfolding gained
-returns-3 c = rw (c .before .match .keys3) (c .min .ensures)
+returns-3 c = rw (c .before .match .keys3) (c .raised .ensures)
 
 returns-4 : tie.Need-returns-4
 unfolding gained
 returns-4 c =
     let r = c .before .before .match .rest in
-    rw (ne-eqb _ _ (r .0 .0 .1), ne-eqb _ _ (r .0 .1), ne-eqb _ _ (r .1), lt-ltb _ _ (c .before .if1 .taken)) (c .min2 .ensures)
+    rw (ne-eqb _ _ (r .0 .0 .1), ne-eqb _ _ (r .0 .1), ne-eqb _ _ (r .1), lt-ltb _ _ (c .before .if1 .taken)) (c .raised2 .ensures)
 
 returns-5 : tie.Need-returns-5
 unfolding gained
 returns-5 c =
     let r = c .before .before .match .rest in
-    rw (ne-eqb _ _ (r .0 .0 .1), ne-eqb _ _ (r .0 .1), ne-eqb _ _ (r .1), le-ltb _ _ (c .before .if1 .left)) (c .min3 .ensures)
+    rw (ne-eqb _ _ (r .0 .0 .1), ne-eqb _ _ (r .0 .1), ne-eqb _ _ (r .1), le-ltb _ _ (c .before .if1 .left)) (c .raised3 .ensures)
 
 pub gained-spec : {M : Type 1} → statement M
 gained-spec =
@@ -35,11 +35,8 @@ gained-spec =
     (tie.spec
     (λ c κs. search needs)
     (λ c κs. search needs)
-    (λ c. search needs)
     (λ c κs. search needs)
-    (λ c. search needs)
     (λ c κs. search needs)
-    (λ c. search needs)
     (λ c κs. search needs)
     returns
     returns-2
