@@ -155,6 +155,34 @@ mod tests {
         }
     }
 
+    /// Document 01: where a field and its register byte differ, a key-on
+    /// uses SRCN's field and a loop jump its byte. The Rust lets a caller set
+    /// the field of SRCN alone.
+    #[test]
+    fn key_on_uses_the_field_and_a_loop_jump_the_byte() {
+        let mut ram = Box::new([0; 65_536]);
+        ram[0x1205] = 0x20; // entry 1 starts at $2000,
+        ram[0x2000] = 0x03; // a block with end and loop
+        ram[0x120B] = 0x30; // entry 2 loops to $3000
+        let mut dsp = Dsp::new();
+        for (register, value) in [
+            (FLG, 0x20),
+            (DIR, 0x12),
+            (SRCN, 2),
+            (PITCH_HIGH, 0x10),
+            (KON, 1),
+        ] {
+            dsp.write_reg(register, value);
+        }
+        dsp.voices[0].srcn = 1;
+        for (ticks, addr) in [(1, 0x1204), (5, 0x2000), (15, 0x3000)] {
+            for _ in 0..ticks {
+                dsp.step(&mut ram);
+            }
+            assert_eq!(dsp.voices[0].brr.addr, addr);
+        }
+    }
+
     /// Document 01 has every tick leave OUTX, for idle and skipped voices
     /// too. Here the Rust does the same: a byte written there is gone.
     #[test]
