@@ -1,4 +1,4 @@
-// FNV-1a, 64 bits: of bytes, of samples, of RAM, of all registers.
+// FNV-1a, 64 bits: of bytes, of samples, of RAM, of all registers, of the reads beside them.
 ghost use mathlib.Core.Path.{_≡_};
 ghost use Prim.Native.Nat.{_*_, _%_, _^_};
 ghost use Rattle.trace.specs.Digest.{fnv};
@@ -40,6 +40,11 @@ pub fn with_registers(sum: u64, dsp: Dsp) -> u64 {
         register += 1;
     }
     made
+}
+
+// EDL and PMON as used, which may differ from their registers.
+pub fn with_reads(sum: u64, dsp: Dsp) -> u64 {
+    with_byte(with_byte(sum, dsp.edl()), dsp.pmon())
 }
 
 pub fn with_bytes(sum: u64, bytes: &[u8]) -> u64 {

@@ -4,6 +4,7 @@ ghost use Prim.Native.Nat.{_+_, _≤_};
 ghost use lib.ListN.{length};
 use crate::digest::EMPTY;
 use crate::digest::with_bytes;
+use crate::digest::with_reads;
 use crate::digest::with_registers;
 use crate::digest::with_sample;
 use crate::lines;
@@ -20,6 +21,15 @@ pub struct Run {
     pub readings: u64,
     pub pcm: u64,
     pub trace: u64,
+}
+
+// "The direct register write masks its index with $7F": an odd value goes with bit 7 of the register's number set.
+fn index(register: u8, value: u8) -> u8 {
+    if value % 2 == 1 {
+        register | 0x80
+    } else {
+        register
+    }
 }
 
 impl Run {
@@ -41,7 +51,7 @@ impl Run {
         ensures { λ r. ⌜ (r .ticks ≡ self .ticks) × (r .readings ≡ self .readings) ⌝ }
     {
         let d = self.dsp;
-        let a = d.write_reg(register, value);
+        let a = d.write_reg(index(register, value), value);
         let e = a.dsp;
         self.refusal = a.refusal;
         self.dsp = e;
@@ -65,7 +75,8 @@ impl Run {
         self.refusal = s.refusal;
         self.ticks += 1;
         self.pcm = with_sample(self.pcm, s);
-        self.trace = with_bytes(with_sample(with_registers(self.trace, e), s), ram);
+        let read = with_reads(with_registers(self.trace, e), e);
+        self.trace = with_bytes(with_sample(read, s), ram);
         self
     }
 

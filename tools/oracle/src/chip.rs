@@ -18,7 +18,8 @@ pub struct Outcome {
     pub ram: Box<RawARAM>,
     /// Left, right, 16 bits, low byte first.
     pub pcm: Vec<u8>,
-    /// Digest of, tick by tick, the 128 registers after it, its sample and RAM.
+    /// Digest of, tick by tick, the 128 registers after it, EDL and PMON as
+    /// used, its sample and RAM.
     pub trace: u64,
 }
 
@@ -34,13 +35,14 @@ pub fn run(log: &[u8], ram: Vec<u8>) -> Result<Outcome, Refusal> {
     let mut trace = Digest::new();
     for record in records {
         match record {
-            Record::Write { register, value } => dsp.write_reg(register, value),
+            Record::Write { register, value } => dsp.write_reg(index(register, value), value),
             Record::Reading(register) => readings.push((register, dsp.read_reg(register))),
             Record::Ticks(count) => {
                 ticks += usize::from(count);
                 for _ in 0..count {
                     tick(&mut dsp, &mut ram, &mut pcm);
                     trace.bytes(&registers(&dsp));
+                    trace.bytes(&[dsp.edl(), dsp.pmon()]);
                     trace.bytes(&pcm.0[pcm.0.len() - SAMPLE_SIZE..]);
                     trace.bytes(&ram[..]);
                 }
@@ -56,6 +58,17 @@ pub fn run(log: &[u8], ram: Vec<u8>) -> Result<Outcome, Refusal> {
         pcm: pcm.0,
         trace: trace.0,
     })
+}
+
+/// The index that a log's write is made with: an odd value goes with bit 7
+/// of the register's number set. "The direct register write masks its index
+/// with `$7F`" (document 01).
+fn index(register: u8, value: u8) -> u8 {
+    if value % 2 == 1 {
+        register | 0x80
+    } else {
+        register
+    }
 }
 
 fn registers(dsp: &Dsp) -> Vec<u8> {
@@ -116,6 +129,15 @@ mod tests {
         assert_eq!(report(&run(b"", zero_ram())), "REFUSED 8\n");
     }
 
+    /// Document 01: the direct register write masks its index.
+    #[test]
+    fn an_odd_value_goes_with_bit_7_set() {
+        assert_eq!([index(PMON, 0xFF), index(PMON, 0xFE)], [0xAD, 0x2D]);
+        let outcome = run(b"RW\x2D\xFFRW\x7D\xFEND", zero_ram()).ok().unwrap();
+        assert_eq!(outcome.registers[0x2D], 0xFF);
+        assert_eq!(outcome.registers[0x7D], 0xFE);
+    }
+
     /// Document 01: KON before tick 1 first runs the voice on tick 6. Direct
     /// gain shows it: ENVX is 0 on the five skipped ticks.
     #[test]
@@ -130,6 +152,34 @@ mod tests {
                 dsp.step(&mut ram);
             }
             assert_eq!(dsp.read_reg(0x08), envx);
+        }
+    }
+
+    /// Document 01: where a field and its register byte differ, a key-on
+    /// uses SRCN's field and a loop jump its byte. The Rust lets a caller set
+    /// the field of SRCN alone.
+    #[test]
+    fn key_on_uses_the_field_and_a_loop_jump_the_byte() {
+        let mut ram = Box::new([0; 65_536]);
+        ram[0x1205] = 0x20; // entry 1 starts at $2000,
+        ram[0x2000] = 0x03; // a block with end and loop
+        ram[0x120B] = 0x30; // entry 2 loops to $3000
+        let mut dsp = Dsp::new();
+        for (register, value) in [
+            (FLG, 0x20),
+            (DIR, 0x12),
+            (SRCN, 2),
+            (PITCH_HIGH, 0x10),
+            (KON, 1),
+        ] {
+            dsp.write_reg(register, value);
+        }
+        dsp.voices[0].srcn = 1;
+        for (ticks, addr) in [(1, 0x1204), (5, 0x2000), (15, 0x3000)] {
+            for _ in 0..ticks {
+                dsp.step(&mut ram);
+            }
+            assert_eq!(dsp.voices[0].brr.addr, addr);
         }
     }
 

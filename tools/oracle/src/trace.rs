@@ -43,15 +43,19 @@ mod tests {
         assert!(both.starts_with("CASE 1\nREFUSED 8\nCASE 2\nEND 0 0\nREG 00 "));
     }
 
-    /// One tick of the chip as it starts: its registers, silence, then RAM.
+    /// One tick with all of EDL and PMON written: the registers, both as
+    /// used, silence, then RAM.
     #[test]
-    fn the_digest_is_over_registers_sample_and_ram() {
+    fn the_digest_is_over_registers_reads_sample_and_ram() {
         let mut bytes = vec![0; 128];
         bytes[0x6C] = 0xE0;
+        bytes[0x7D] = 0xFF;
+        bytes[0x2D] = 0xFF;
+        bytes.extend([0x0F, 0xFE]);
         bytes.extend([0; 4]);
         bytes.extend([0; 65_536]);
         let last = format!("TRACE {:016X}\n", digest(&bytes));
-        assert!(text(&[case(b"TK\x01\x00ND")]).ends_with(&last));
+        assert!(text(&[case(b"RW\x7D\xFFRW\x2D\xFFTK\x01\x00ND")]).ends_with(&last));
         assert!(text(&[case(b"ND")]).ends_with("TRACE CBF29CE484222325\n"));
     }
 

@@ -1,0 +1,25 @@
+// What the lines are made of.
+use libc::STDOUT_FILENO;
+
+pub fn say(words: &[u8]) {
+    io::write_all(STDOUT_FILENO, words);
+}
+
+pub fn number(words: &[u8], n: u64) {
+    say(words);
+    io::print_decimal(STDOUT_FILENO, n);
+}
+
+pub fn hex(words: &[u8], n: u64) {
+    say(words);
+    io::print_hex(STDOUT_FILENO, n, 1);
+}
+
+pub fn verdict(words: &[u8], same: bool) {
+    say(words);
+    if same {
+        say(b" same");
+    } else {
+        say(b" changed");
+    }
+}

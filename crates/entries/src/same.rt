@@ -1,0 +1,127 @@
+// Whether two records, or two slices, are the same.
+use dsp::Adsr;
+use dsp::Brr;
+use dsp::Dsp;
+use dsp::EnvelopePhase;
+use dsp::Voice;
+
+pub fn same_bytes(a: &[u8], b: &[u8]) -> bool {
+    if a.len() != b.len() {
+        return false;
+    }
+    let mut same = true;
+    let mut i: usize = 0;
+    while i < a.len() {
+        same = same & (a[i] == b[i]);
+        i += 1;
+    }
+    same
+}
+
+pub fn letter(phase: EnvelopePhase) -> u8 {
+    match phase {
+        EnvelopePhase::Attack => b'A',
+        EnvelopePhase::Decay => b'D',
+        EnvelopePhase::Sustain => b'S',
+        EnvelopePhase::Release => b'R',
+        EnvelopePhase::Off => b'O',
+    }
+}
+
+fn same_adsr(a: Adsr, b: Adsr) -> bool {
+    let before = a.envelope_phase;
+    let after = b.envelope_phase;
+    (a.adsr_mode == b.adsr_mode)
+        & (a.gain_param == b.gain_param)
+        & (a.attack_rate == b.attack_rate)
+        & (a.decay_rate == b.decay_rate)
+        & (a.sustain_level == b.sustain_level)
+        & (a.sustain_rate == b.sustain_rate)
+        & (a.envelope_level == b.envelope_level)
+        & (letter(before) == letter(after))
+        & (a.tick_counter == b.tick_counter)
+}
+
+fn same_brr(a: Brr, b: Brr) -> bool {
+    let mut same = (a.addr == b.addr)
+        & (a.nibble_idx == b.nibble_idx)
+        & (a.prev1 == b.prev1)
+        & (a.prev2 == b.prev2)
+        & (a.block_end == b.block_end)
+        & (a.buffer_fill == b.buffer_fill);
+    let mut i: usize = 0;
+    while i < 16 {
+        same = same & (a.sample_buffer[i] == b.sample_buffer[i]);
+        i += 1;
+    }
+    same
+}
+
+fn same_voice(a: Voice, b: Voice) -> bool {
+    let d = a.adsr;
+    let e = b.adsr;
+    let p = a.brr;
+    let q = b.brr;
+    (a.left_vol == b.left_vol)
+        & (a.right_vol == b.right_vol)
+        & (a.pitch == b.pitch)
+        & (a.srcn == b.srcn)
+        & (a.key_on == b.key_on)
+        & (a.pitch_counter == b.pitch_counter)
+        & (a.current_sample == b.current_sample)
+        & (a.history[0] == b.history[0])
+        & (a.history[1] == b.history[1])
+        & (a.history[2] == b.history[2])
+        & (a.history[3] == b.history[3])
+        & same_adsr(d, e)
+        & same_brr(p, q)
+}
+
+// What the record has eight of.
+fn same_eight(a: Dsp, b: Dsp) -> bool {
+    let mut same = true;
+    let mut i: usize = 0;
+    while i < 8 {
+        let v = a.voices[i];
+        let w = b.voices[i];
+        same = same
+            & same_voice(v, w)
+            & (a.kon_delay[i] == b.kon_delay[i])
+            & (a.fir_coeff[i] == b.fir_coeff[i])
+            & (a.fir_history_l[i] == b.fir_history_l[i])
+            & (a.fir_history_r[i] == b.fir_history_r[i]);
+        i += 1;
+    }
+    same
+}
+
+// All but the register bytes.
+pub fn same_fields(a: Dsp, b: Dsp) -> bool {
+    same_eight(a, b)
+        & (a.dir_base == b.dir_base)
+        & (a.master_vol_left == b.master_vol_left)
+        & (a.master_vol_right == b.master_vol_right)
+        & (a.flg == b.flg)
+        & (a.new_kon == b.new_kon)
+        & (a.every_other_sample == b.every_other_sample)
+        & (a.non == b.non)
+        & (a.pmon == b.pmon)
+        & (a.noise_lfsr == b.noise_lfsr)
+        & (a.noise_tick_counter == b.noise_tick_counter)
+        & (a.echo_vol_left == b.echo_vol_left)
+        & (a.echo_vol_right == b.echo_vol_right)
+        & (a.efb == b.efb)
+        & (a.eon == b.eon)
+        & (a.esa == b.esa)
+        & (a.edl == b.edl)
+        & (a.echo_ptr == b.echo_ptr)
+        & (a.echo_len == b.echo_len)
+        & (a.echo_out_l == b.echo_out_l)
+        & (a.echo_out_r == b.echo_out_r)
+}
+
+pub fn same_record(a: Dsp, b: Dsp) -> bool {
+    let x = a.registers;
+    let y = b.registers;
+    same_bytes(&x, &y) & same_fields(a, b)
+}
