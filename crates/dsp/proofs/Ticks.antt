@@ -2,26 +2,28 @@
 use mathlib.Core.Bool.{Bool}
 use mathlib.Core.List.{List, [], _++_}
 use mathlib.Core.Path.{_≡_, refl, _∙_}
-use Prim.Native.Nat.{ℕ, _+_, _*_, _≤_, _<_}
+use Prim.Native.Nat.{ℕ, zero, suc, _+_, _*_, _/_, _%_, _≤_, _<_}
 use native.Mathlib.Omega.{arith}
 use lib.IntN.{ℤ}
 use lib.ListN.{getD, set, take, drop, length, length-set}
-use Rattle.numbers.specs.Choice.{if_then_else_}
+use Rattle.numbers.specs.Choice.{if_then_else_, _<?_}
 use Rattle.numbers.proofs.Choice.{chosen}
-use Rattle.dsp.specs.Machine.{noVoice, apart, together}
+use Rattle.dsp.specs.Machine.{noVoice, Parts, apart, together}
 use Rattle.dsp.specs.Fit.{FitVoice, FitGlob, Fit}
-use Rattle.dsp.specs.Registers.{turns}
+use Rattle.dsp.specs.Registers.{turns, resets, silenceVoice, silenceAll, writeParts, writeAt}
 use Rattle.dsp.specs.Mix.{bit}
 use Rattle.dsp.specs.Sheet.{laneAt}
 use Rattle.dsp.specs.Echo.{Echo, EchoLane, echoTick, echoWritten, echoStored, echoFrom, echoLane, echoWorked, echoShown}
 use Rattle.dsp.specs.Lane.{Cell, ownCell, shownCell, putBytes, turned}
-use Rattle.dsp.specs.Tick.{Round, turn, voicesTick, globTick, sharedFrom, sharedOf, Ticked, mixed, tickOf, Bench, onward, benchTick, startOf}
+use Rattle.dsp.specs.Tick.{Round, turn, voicesTick, globTick, sharedFrom, sharedOf, Ticked, mixed, tickOf, Bench, onward, benchTick, benchWrite, ticksOf, startOf}
+use Rattle.dsp.specs.declared.voice.Voice.{Voice}
 use Rattle.dsp.specs.declared.lane.Shared.{Shared}
 use Rattle.dsp.specs.declared.registers.Dsp.{Dsp}
 use Rattle.dsp.specs.declared.registers.Glob.{Glob}
 use Rattle.dsp.specs.declared.mix.Stereo.{Stereo}
 use Rattle.dsp.specs.declared.tick.Work.{Work}
 use Rattle.dsp.proofs.Turns.{turns-keep, set-keeps}
+use Rattle.dsp.proofs.Fits.{fit-kept-write}
 use Rattle.dsp.proofs.Envelopes.{fit-kept-noise}
 use Rattle.dsp.proofs.Echoes.{fit-kept-echo}
 use Rattle.dsp.proofs.Lanes.{fit-kept-either}
@@ -138,4 +140,64 @@ fit-kept-bench w b h =
       ram = e .ram ∙ h .ram;
       round = record { bytes = r .bytes; count = r .count; waits = r .waits; voices = r .voices; delays = r .delays };
       glob = e .glob;
+    }
+
+pub fit-kept-ticks : (w : Work) (n : ℕ) (b : Bench) → BenchFit b → BenchFit (ticksOf w n b)
+unfolding ticksOf
+fit-kept-ticks w zero b h = h
+fit-kept-ticks w (suc n) b h = fit-kept-bench w (ticksOf w n b) (fit-kept-ticks w n b h)
+
+-- a record and its parts
+pub together-apart : (d : Dsp) → together (apart d) ≡ d
+together-apart d = refl
+
+pub apart-together : (p : Parts) → apart (together p) ≡ p
+apart-together p = refl
+
+-- the record of fit parts is fit
+pub bench-fit : (b : Bench) → BenchFit b → Fit (together (b .parts))
+bench-fit b h = record { glob = h .glob; voices = h .round .voices; delays = h .round .delays }
+
+-- and the other way: the arrays of a record of the language have these lengths
+pub fit-bench : (d : Dsp) (ram pcm sheet old : List ℕ) → length ram ≡ 0x10000 → length (d .registers) ≡ 128 → length (d .voices) ≡ 8 → length (d .«kon_delay») ≡ 8 → Fit d
+    → BenchFit (record { parts = apart d; ram = ram; pcm = pcm; sheet = sheet; old = old })
+fit-bench d ram pcm sheet old lr lb lv ld h =
+    record { ram = lr; round = record { bytes = lb; count = lv; waits = ld; voices = h .voices; delays = h .delays }; glob = h .glob }
+
+-- a tick of a fit record leaves a fit one
+pub fit-kept-tick : (w : Work) (d : Dsp) (ram old : List ℕ) → length ram ≡ 0x10000 → length (d .registers) ≡ 128 → length (d .voices) ≡ 8 → length (d .«kon_delay») ≡ 8 → Fit d
+    → Fit (together (tickOf w old (apart d) ram .parts))
+unfolding benchTick
+fit-kept-tick w d ram old lr lb lv ld h =
+    let b : Bench = record { parts = apart d; ram = ram; pcm = []; sheet = []; old = old } in
+    bench-fit (benchTick w b) (fit-kept-bench w b (fit-bench d ram [] [] old lr lb lv ld h))
+
+-- ---- a register write between ticks
+
+silenced-count : (vs : List Voice) → length vs ≡ 8 → length (silenceAll vs) ≡ 8
+unfolding silenceAll silenceVoice
+silenced-count vs e = turns-keep (λ (l : List Voice). length l ≡ 8) silenceVoice 8 (λ n l m h. length-set l n _ ∙ h) 8 vs (omega arith) e
+
+abbrev Count8 : List Voice → Type 0
+Count8 l = length l ≡ 8
+
+pub fit-kept-bench-write : (i x : ℕ) (b : Bench) → i < 128 → x < 256 → BenchFit b → BenchFit (benchWrite i x b)
+unfolding writeParts writeAt
+fit-kept-bench-write i x b li lx h =
+    let p = b .parts in
+    let d = together p in
+    let f = fit-kept-write i x d li lx (bench-fit b h) in
+    record {
+      ram = h .ram;
+      round =
+          record {
+            bytes = chosen (λ (l : List ℕ). length l ≡ 128) (resets i x) (simp length-set (h .round .bytes)) (simp length-set (h .round .bytes));
+            count =
+                chosen Count8 (i % 16 <? 8) (length-set (p .voices) (i / 16) _ ∙ h .round .count)
+                (chosen Count8 (resets i x) (silenced-count (p .voices) (h .round .count)) (h .round .count));
+            waits = h .round .waits;
+            voices = f .voices;
+            delays = f .delays;
+          };
+      glob = f .glob;
     }

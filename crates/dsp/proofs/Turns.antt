@@ -3,7 +3,7 @@ use mathlib.Core.List.{List, [], _∷_}
 use mathlib.Core.Path.{_≡_, refl, ap, _∙_}
 use Prim.Native.Nat.{ℕ, zero, suc, _≤_, _<_}
 use native.Mathlib.Omega.{arith}
-use lib.ListN.{getD, set}
+use lib.ListN.{getD, set, length}
 use Rattle.dsp.specs.Registers.{turns}
 
 -- of the first k turns, what each of them keeps
@@ -26,3 +26,14 @@ set-keeps P d (x ∷ xs) zero w p zero h = p
 set-keeps P d (x ∷ xs) zero w p (suc m) h = h
 set-keeps P d (x ∷ xs) (suc n) w p zero h = h
 set-keeps P d (x ∷ xs) (suc n) w p (suc m) h = set-keeps P d xs n w p m h
+
+pub set-here : {A : Type 0} (d : A) (xs : List A) (n : ℕ) (w : A) → n < length xs → getD (set xs n w) n d ≡ w
+set-here d [] n w l = absurd (omega arith)
+set-here d (x ∷ xs) zero w l = refl
+set-here d (x ∷ xs) (suc n) w l = set-here d xs n w (omega arith)
+
+pub set-there : {A : Type 0} (d : A) (xs : List A) (n m : ℕ) (w : A) → m < n → getD (set xs n w) m d ≡ getD xs m d
+set-there d [] n m w l = refl
+set-there d (x ∷ xs) zero m w l = absurd (omega arith)
+set-there d (x ∷ xs) (suc n) zero w l = refl
+set-there d (x ∷ xs) (suc n) (suc m) w l = set-there d xs n m w (omega arith)

@@ -1,13 +1,13 @@
 -- One tick of the machine: poll, noise, voices 0 to 7, echo, mix; and ticks one after another.
 use mathlib.Core.Bool.{Bool, true, not, _&&_}
 use mathlib.Core.List.{List, [], _++_}
-use Prim.Native.Nat.{ℕ, zero, suc}
+use Prim.Native.Nat.{ℕ, zero, suc, _*_}
 use lib.IntN.{ℤ}
 use lib.ListN.{getD, set, length, drop}
 use Rattle.numbers.specs.Choice.{if_then_else_, _=?_, _<?_}
 use Rattle.dsp.specs.Machine.{noVoice, Parts, apart, together}
 use Rattle.dsp.specs.Fit.{fit}
-use Rattle.dsp.specs.Registers.{turns}
+use Rattle.dsp.specs.Registers.{turns, writeParts}
 use Rattle.dsp.specs.Noise.{noiseTick, noiseSample}
 use Rattle.dsp.specs.Mix.{bit, masterOf}
 use Rattle.dsp.specs.Sheet.{pairBytes, laneAt}
@@ -160,8 +160,38 @@ unfoldable pub ticksOf : Work → ℕ → Bench → Bench
 ticksOf w zero b = b
 ticksOf w (suc n) b = benchTick w (ticksOf w n b)
 
+-- a register write between two ticks
+abbrev pub benchWrite : ℕ → ℕ → Bench → Bench
+benchWrite i x b = record { parts = writeParts i x (b .parts); ram = b .ram; pcm = b .pcm; sheet = b .sheet; old = b .old }
+
 abbrev pub benchOf : Dsp → List ℕ → List ℕ → Bench
 benchOf d ram old = record { parts = apart d; ram = ram; pcm = []; sheet = []; old = old }
+
+-- ---- so many ticks, for a run and a rework
+
+pub record Drove : Type 0 where
+  pub refusal : ℕ
+  pub dsp : Dsp
+  pub ram : List ℕ
+  pub pcm : List ℕ
+  pub sheet : List ℕ
+
+abbrev pub drove : Bench → Drove
+drove b = record { refusal = 0; dsp = together (b .parts); ram = b .ram; pcm = b .pcm; sheet = b .sheet }
+
+abbrev pub undriven : ℕ → Dsp → List ℕ → List ℕ → List ℕ → Drove
+undriven k d ram pcm sheet = record { refusal = k; dsp = d; ram = ram; pcm = pcm; sheet = sheet }
+
+-- 1: the RAM slice isn't 65,536 bytes; 2: the record is unfit; 10: PCM 4, sheet 36 bytes a tick, exactly
+unfoldable pub driveOf : Work → ℕ → Dsp → List ℕ → List ℕ → List ℕ → Drove
+driveOf w n d ram pcm sheet =
+    if length ram =? 0x10000 then
+    (if fit d then
+    (if length pcm =? n * 4 then
+    (if length sheet =? n * 36 then drove (ticksOf w n (benchOf d ram sheet)) else undriven 10 d ram pcm sheet)
+    else undriven 10 d ram pcm sheet)
+    else undriven 2 d ram pcm sheet)
+    else undriven 1 d ram pcm sheet
 
 -- ---- the public step
 

@@ -18,4 +18,5 @@ pub use mix::Sample;
 pub use registers::Answer;
 pub use registers::Dsp;
 pub use sound::decode_brr_nibble;
+pub use tick::Work;
 pub use voice::Voice;

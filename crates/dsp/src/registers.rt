@@ -233,7 +233,8 @@ impl Dsp {
         }
     }
 
-    pub(crate) fn is_fit(self) -> bool
+    // Whether no call refuses the record by 2.
+    pub fn is_fit(self) -> bool
         ensures { λ r. ⌜ r ≡ fit self ⌝ }
     {
         let g = self.glob();

@@ -9,7 +9,7 @@ ghost use Rattle.sound.specs.Clock.{periods};
 ghost use Rattle.dsp.specs.Noise.{FitNoise};
 ghost use Rattle.dsp.specs.Fit.{FitGlob, Fit};
 ghost use Rattle.dsp.specs.Machine.{apart, together};
-ghost use Rattle.dsp.specs.Tick.{polls, globTick, sharedFrom, Bench, benchOf, ticksOf, After, stepOf};
+ghost use Rattle.dsp.specs.Tick.{polls, globTick, sharedFrom, Bench, benchOf, ticksOf, Drove, driveOf, After, stepOf};
 use crate::echo::put_pair;
 use crate::lane::Acc;
 use crate::lane::Shared;
@@ -199,15 +199,40 @@ impl Dsp {
         self.with_parts(g, bytes, voices, delays, left, right)
     }
 
+    // So many ticks, with their samples and their rows of the sheet. Refuses 1, 2, then 10.
+    pub fn ticks(
+        self,
+        work: Work,
+        count: u16,
+        ram: &mut [u8],
+        pcm: &mut [u8],
+        sheet: &mut [u8],
+    ) -> Answer
+        ensures { λ r. ⌜ _≡_ {A = Drove} (record { refusal = r .refusal; dsp = r .dsp; ram = now (ram .exit); pcm = now (pcm .exit); sheet = now (sheet .exit) }) (driveOf work count self (now (ram .entry)) (now (pcm .entry)) (now (sheet .entry))) ⌝ }
+    {
+        if ram.len() != RAM_SIZE {
+            return refused(1, self);
+        }
+        if !self.is_fit() {
+            return refused(2, self);
+        }
+        let n = count as usize;
+        if pcm.len() != n * 4 {
+            return refused(10, self);
+        }
+        if sheet.len() != n * 36 {
+            return refused(10, self);
+        }
+        let d = self.drive(work, ram, n, pcm, sheet);
+        Answer { refusal: 0, dsp: d }
+    }
+
     // One tick. Refuses 1, then 2.
     pub fn step(self, ram: &mut [u8]) -> Answer
         ensures { λ r. ⌜ _≡_ {A = After} (record { refusal = r .refusal; dsp = r .dsp; ram = now (ram .exit) }) (stepOf self (now (ram .entry))) ⌝ }
     {
         if ram.len() != RAM_SIZE {
-            return Answer {
-                refusal: 1,
-                dsp: self,
-            };
+            return refused(1, self);
         }
         if self.is_fit() {
             let mut pcm = [0; 4];
@@ -219,10 +244,13 @@ impl Dsp {
             let d = self.drive(work, ram, 1, &mut pcm, &mut sheet);
             Answer { refusal: 0, dsp: d }
         } else {
-            Answer {
-                refusal: 2,
-                dsp: self,
-            }
+            refused(2, self)
         }
     }
+}
+
+fn refused(refusal: u8, dsp: Dsp) -> Answer
+    ensures { λ r. ⌜ (r .refusal ≡ refusal) × (r .dsp ≡ dsp) ⌝ }
+{
+    Answer { refusal, dsp }
 }

@@ -1,18 +1,19 @@
 -- A turn of a loop over the log's records, on plain values.
 use mathlib.Core.Path.{_≡_, refl, sym, ap, subst, _∙_}
-use mathlib.Core.List.{List}
-use mathlib.Core.Bool.{Bool}
+use mathlib.Core.List.{List, [], _∷_}
+use mathlib.Core.Bool.{Bool, true, false}
 use Prim.Native.Nat.{ℕ, zero, suc, _+_, _≤_, _<_}
 use native.Mathlib.Omega.{arith}
 use lib.ListN.{length}
-use borrow.Author.Tests.{lt-ltb, le-ltb}
+use borrow.Author.Tests.{lt-ltb, le-ltb, ltb-false, ne-eqb}
 use Rattle.numbers.specs.Choice.{if_then_else_, _<?_}
 use Rattle.log.specs.declared.Record.{Record}
+use Rattle.log.specs.declared.Record.the-variants.{Write, Ticks, Reading}
 use Rattle.log.specs.declared.Next.{Next}
 use Rattle.log.specs.declared.Next.the-variants.{On, Off}
 use Rattle.log.specs.declared.Measured.{Measured}
 use Rattle.log.specs.Log.{readAt, Moves, Known, Decoded, before, decodeFrom, decode}
-use Rattle.log.specs.Measure.{ticksOf, readingsOf, refusedBy, endedAt, total, totalOf}
+use Rattle.log.specs.Measure.{ticksOf, readingsOf, refusedBy, endedAt, total, totalOf, measureOf}
 
 -- the place is reached with t ticks and q readings: what is left, of fewer than f records, gives the whole log's totals
 pub record Here (log : List ℕ) (at t q : ℕ) : Type 0 where
@@ -78,3 +79,95 @@ module _ {log : List ℕ} {at t q : ℕ} {n : Next} (here : Here log at t q) (is
           rest = rw (ex, ey) (sym (ap (by r behind) (le-ltb 32000 (t + ticksOf r) (omega (arith, ex)))) ∙ seen e);
         },
       )
+
+-- ---- over a log that is refused by nothing, T ticks and Q readings in all
+
+abbrev pub good : ℕ → ℕ → Measured
+good T Q = record { refusal = 0; ticks = T; readings = Q }
+
+-- a refusal has another number
+refused-not : {A : Type 0} (k T Q : ℕ) → refusedBy (suc k) ≡ good T Q → A
+refused-not k T Q e = let z : suc k ≡ 0 = ap (λ (m : Measured). m .refusal) e in absurd (omega arith)
+
+-- how the records end
+pub record Ends (stop t q T Q : ℕ) : Type 0 where
+  pub stops : stop ≡ 0
+  pub ticks : t ≡ T
+  pub readings : q ≡ Q
+
+ends : (stop t q T Q : ℕ) → endedAt stop t q ≡ good T Q → Ends stop t q T Q
+ends zero t q T Q e = record { stops = refl; ticks = ap (λ (m : Measured). m .ticks) e; readings = ap (λ (m : Measured). m .readings) e }
+ends (suc k) t q T Q e = refused-not k T Q (sym (ap (λ (b : Bool). if b then good t q else refusedBy (suc k)) (ne-eqb (suc k) 0 (omega arith))) ∙ e)
+
+-- a record leaves the ticks at 32,000 or less
+pub record Counts (t x : ℕ) (rest T : Measured) : Type 0 where
+  pub few : t + x ≤ 32000
+  pub rest-is : rest ≡ T
+
+counts : (b : Bool) (t x T Q : ℕ) (rest : Measured) → (32000 <? t + x) ≡ b → (if b then refusedBy 7 else rest) ≡ good T Q → Counts t x rest (good T Q)
+counts true t x T Q rest eb e = refused-not 6 T Q e
+counts false t x T Q rest eb e = record { few = ltb-false 32000 (t + x) eb; rest-is = e }
+
+-- no total shrinks
+pub most : (rs : List Record) (stop t q T Q : ℕ) → total rs stop t q ≡ good T Q → (t ≤ T) × (q ≤ Q)
+unfolding total
+most [] stop t q T Q e = let n = ends stop t q T Q e in (omega (arith, n .ticks), omega (arith, n .readings))
+most (r ∷ rs) stop t q T Q e =
+    let c = counts (32000 <? t + ticksOf r) t (ticksOf r) T Q (total rs stop (t + ticksOf r) (q + readingsOf r)) refl e in
+    let m = most rs stop (t + ticksOf r) (q + readingsOf r) T Q (c .rest-is) in
+    (omega (arith, m .0), omega (arith, m .1))
+
+few-read : (r : Record) → readingsOf r ≤ 1
+few-read (Write r v) = omega arith
+few-read (Ticks k) = omega arith
+few-read (Reading r) = omega arith
+
+-- the place behind a record, with its ticks and readings counted
+pub record Turned (log : List ℕ) (at t q f : ℕ) (r : Record) (behind : ℕ) : Type 0 where
+  pub on : at < behind
+  pub here : Here log behind (t + ticksOf r) (q + readingsOf r)
+  pub opens : decodeFrom f log at .records ≡ r ∷ decodeFrom (here .f) log behind .records
+  pub known : Known r
+
+module _ {log : List ℕ} {at t q : ℕ} {n : Next} (here : Here log at t q) (is : n ≡ readAt log at) {T Q : ℕ} (g : totalOf (decode log) 0 0 ≡ good T Q) where
+  opened-here : (m : ℕ) × (here .f ≡ m + 1) × (decodeFrom (here .f) log at ≡ before (decodeFrom m log) n)
+  opened-here =
+      let o = opened log (here .f) at (here .room) (here .within) in
+      (o .0, o .1, o .2 ∙ sym (ap (before (decodeFrom (o .0) log)) is))
+
+  pub turned : {r : Record} {behind : ℕ} → n ≡ On r behind → Moves at (length log) n → Turned log at t q (here .f) r behind
+  unfolding total
+  turned {r} {behind} e m =
+      let o = opened-here in
+      let d : decodeFrom (here .f) log at ≡ before (decodeFrom (o .0) log) (On r behind) = o .2 ∙ ap (before (decodeFrom (o .0) log)) e in
+      let v : Moves at (length log) (On r behind) = subst (Moves at (length log)) e m in
+      let rest = totalOf (decodeFrom (o .0) log behind) (t + ticksOf r) (q + readingsOf r) in
+      let c = counts (32000 <? t + ticksOf r) t (ticksOf r) T Q rest refl (sym (ap (λ (x : Decoded). totalOf x t q) d) ∙ here .rest ∙ g) in
+      let k : here .f ≡ o .0 + 1 = o .1 in
+      let few : readingsOf r ≤ 1 = few-read r in
+      record {
+        on = v .0;
+        here = record { within = v .1; few = c .few; less = omega (arith, here .less, v .0, few); f = o .0; room = omega (arith, k, here .room, v .0); rest = c .rest-is ∙ sym g };
+        opens = ap (λ (x : Decoded). x .records) d;
+        known = v .2;
+      }
+
+  pub ended : {k : ℕ} → n ≡ Off k → Ends k t q T Q × (decodeFrom (here .f) log at .records ≡ [])
+  unfolding total
+  ended {k} e =
+      let o = opened-here in
+      let d : decodeFrom (here .f) log at ≡ before (decodeFrom (o .0) log) (Off k) = o .2 ∙ ap (before (decodeFrom (o .0) log)) e in
+      (ends k t q T Q (sym (ap (λ (x : Decoded). totalOf x t q) d) ∙ here .rest ∙ g), ap (λ (x : Decoded). x .records) d)
+
+-- a log that `measureOf` refuses by nothing
+pub record Taken (log : List ℕ) (m : Measured) : Type 0 where
+  pub short : length log ≤ 60000
+  pub all : totalOf (decode log) 0 0 ≡ good (m .ticks) (m .readings)
+
+taken-if : (b : Bool) (log : List ℕ) (m : Measured) → (60000 <? length log) ≡ b → m ≡ (if b then refusedBy 3 else totalOf (decode log) 0 0) → m .refusal ≡ 0 → Taken log m
+taken-if true log m eb e z = let y : m .refusal ≡ 3 = ap (λ (x : Measured). x .refusal) e in absurd (omega arith)
+taken-if false log m eb e z = record { short = ltb-false 60000 (length log) eb; all = sym e ∙ ap (λ (k : ℕ). record { refusal = k; ticks = m .ticks; readings = m .readings }) z }
+
+pub taken : (log : List ℕ) (m : Measured) → m ≡ measureOf log → m .refusal ≡ 0 → Taken log m
+unfolding measureOf
+taken log m e z = taken-if (60000 <? length log) log m refl e z

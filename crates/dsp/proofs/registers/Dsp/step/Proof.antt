@@ -6,7 +6,7 @@ use native.Mathlib.Omega.{arith}
 use lib.ListN.{length}
 use borrow.Author.Tests.{eq-eqb, ne-eqb}
 use Rattle.dsp.specs.Machine.{apart, together}
-use Rattle.dsp.specs.Tick.{Bench, After, ticked, benchTick, ticksOf, stepOf}
+use Rattle.dsp.specs.Tick.{Bench, After, ticked, refused, benchTick, ticksOf, stepOf}
 use Rattle.dsp.proofs.Fits.{fit-facts}
 use Rattle.dsp.proofs.Whole.{tick-whole}
 use Rattle.dsp.proofs.registers.Dsp.step.Statement.{statement}
@@ -14,7 +14,7 @@ use Rattle.dsp.proofs.registers.Dsp.step.Tie as tie
 
 returns : tie.Need-returns
 unfolding stepOf
-returns c = rw (ne-eqb _ _ (c .if1 .taken))
+returns c = rw (ne-eqb _ _ (c .before .if1 .taken)) (λ i. refused (c .refused .ensures .0 i) (c .refused .ensures .1 i) (c .before .before .before .args .ram .now))
 
 drive-requires : tie.Need-drive-requires
 drive-requires c κs = let e : length (c .before .before .before .before .before .before .before .args .ram .now) ≡ 0x10000 = omega (arith, c .before .before .before .before .before .if1 .left) in
@@ -29,18 +29,20 @@ returns-2 c = let e : length (c .before .before .before .before .before .before 
 
 returns-3 : tie.Need-returns-3
 unfolding stepOf
-returns-3 c = let e : length (c .before .before .before .before .args .ram .now) ≡ 0x10000 = omega (arith, c .before .before .if1 .left) in
-    rw (eq-eqb _ _ e, ← c .before .is-fit .ensures, c .if2 .left)
+returns-3 c = let e : length (c .before .before .before .before .before .args .ram .now) ≡ 0x10000 = omega (arith, c .before .before .before .if1 .left) in
+    rw (eq-eqb _ _ e, ← c .before .before .is-fit .ensures, c .before .if2 .left) (λ i. refused (c .refused2 .ensures .0 i) (c .refused2 .ensures .1 i) (c .before .before .before .before .before .args .ram .now))
 
 pub step-spec : {M : Type 1} → statement M
 step-spec =
     tie.close
     (tie.spec
+    (λ c κs. search needs)
     returns
     (λ c κs. search needs)
     (λ c. search needs)
     (λ c. search needs)
     drive-requires
+    (λ c κs. search needs)
     (λ c. search needs)
     returns-2
     returns-3)

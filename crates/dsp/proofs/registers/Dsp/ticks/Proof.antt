@@ -1,0 +1,61 @@
+-- By the refusals, in their order; then drive.
+use borrow.Author.Needs.{needs}
+use mathlib.Core.Path.{_≡_, sym, ap, _∙_}
+use Prim.Native.Nat.{_*_}
+use native.Mathlib.Omega.{arith}
+use lib.ListN.{length}
+use borrow.Author.Tests.{eq-eqb, ne-eqb}
+use Rattle.numbers.proofs.Choice.{not-yes, not-no}
+use Rattle.dsp.specs.Tick.{drove, undriven, driveOf}
+use Rattle.dsp.proofs.Fits.{fit-facts}
+use Rattle.dsp.proofs.registers.Dsp.ticks.Statement.{statement}
+use Rattle.dsp.proofs.registers.Dsp.ticks.Tie as tie
+
+returns : tie.Need-returns
+unfolding driveOf
+returns c = rw (ne-eqb _ _ (c .before .if1 .taken)) (λ i. undriven (c .refused .ensures .0 i) (c .refused .ensures .1 i) (c .before .before .before .before .before .args .ram .now) (c .before .before .before .before .before .args .pcm .now) (c .before .before .before .before .before .args .sheet .now))
+
+returns-2 : tie.Need-returns-2
+unfolding driveOf
+returns-2 c = let e : length (c .before .before .before .before .before .before .before .args .ram .now) ≡ 0x10000 = omega (arith, c .before .before .before .if1 .left) in
+    rw (eq-eqb _ _ e, sym (c .before .before .is-fit .ensures) ∙ not-yes _ (c .before .if2 .taken)) (λ i. undriven (c .refused2 .ensures .0 i) (c .refused2 .ensures .1 i) (c .before .before .before .before .before .before .before .args .ram .now) (c .before .before .before .before .before .before .before .args .pcm .now) (c .before .before .before .before .before .before .before .args .sheet .now))
+
+returns-3 : tie.Need-returns-3
+unfolding driveOf
+returns-3 c = let e : length (c .before .before .before .before .before .before .before .before .args .ram .now) ≡ 0x10000 = omega (arith, c .before .before .before .before .if1 .left) in
+    rw (eq-eqb _ _ e, sym (c .before .before .before .is-fit .ensures) ∙ not-no _ (c .before .before .if2 .left), ne-eqb _ _ (c .before .if3 .taken)) (λ i. undriven (c .refused3 .ensures .0 i) (c .refused3 .ensures .1 i) (c .before .before .before .before .before .before .before .before .args .ram .now) (c .before .before .before .before .before .before .before .before .args .pcm .now) (c .before .before .before .before .before .before .before .before .args .sheet .now))
+
+returns-4 : tie.Need-returns-4
+unfolding driveOf
+returns-4 c = let e : length (c .before .before .before .before .before .before .before .before .before .args .ram .now) ≡ 0x10000 = omega (arith, c .before .before .before .before .before .if1 .left) in
+    rw (eq-eqb _ _ e, sym (c .before .before .before .before .is-fit .ensures) ∙ not-no _ (c .before .before .before .if2 .left), eq-eqb _ _ (c .before .before .if3 .left), ne-eqb _ _ (c .before .if4 .taken)) (λ i. undriven (c .refused4 .ensures .0 i) (c .refused4 .ensures .1 i) (c .before .before .before .before .before .before .before .before .before .args .ram .now) (c .before .before .before .before .before .before .before .before .before .args .pcm .now) (c .before .before .before .before .before .before .before .before .before .args .sheet .now))
+
+drive-requires : tie.Need-drive-requires
+drive-requires c κs = let e : length (c .before .before .before .before .before .before .before .before .before .before .before .args .ram .now) ≡ 0x10000 = omega (arith, c .before .before .before .before .before .before .before .if1 .left) in
+    (e, fit-facts _ (sym (c .before .before .before .before .before .before .is-fit .ensures) ∙ not-no _ (c .before .before .before .before .before .if2 .left)), omega (arith, c .before .before .before .before .before .before .before .before .before .before .before .fits .count .fits), c .before .before .before .before .if3 .left, c .before .before .before .if4 .left)
+
+returns-5 : tie.Need-returns-5
+unfolding driveOf
+returns-5 c = let e : length (c .before .before .before .before .before .before .before .before .before .before .before .before .before .before .before .before .before .before .args .ram .now) ≡ 0x10000 = omega (arith, c .before .before .before .before .before .before .before .before .before .before .before .before .before .before .if1 .left) in
+    rw (eq-eqb _ _ e, sym (c .before .before .before .before .before .before .before .before .before .before .before .before .before .is-fit .ensures) ∙ not-no _ (c .before .before .before .before .before .before .before .before .before .before .before .before .if2 .left), eq-eqb _ _ (c .before .before .before .before .before .before .before .before .before .before .before .if3 .left), eq-eqb _ _ (c .before .before .before .before .before .before .before .before .before .before .if4 .left)) (ap drove (c .before .before .before .before .before .before .drive .ensures))
+
+pub ticks-spec : {M : Type 1} → statement M
+ticks-spec =
+    tie.close
+    (tie.spec
+    (λ c κs. search needs)
+    returns
+    (λ c κs. search needs)
+    (λ c κs. search needs)
+    returns-2
+    (λ c. search needs)
+    (λ c κs. search needs)
+    returns-3
+    (λ c. search needs)
+    (λ c κs. search needs)
+    returns-4
+    drive-requires
+    (λ c. search needs)
+    (λ c. search needs)
+    (λ c. search needs)
+    returns-5)
