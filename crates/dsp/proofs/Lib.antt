@@ -13,3 +13,4 @@ pub mod Lanes
 pub mod Ticks
 pub mod Drives
 pub mod Whole
+pub mod Batches
