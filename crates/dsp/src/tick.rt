@@ -7,7 +7,7 @@ ghost use lib.ListN.{length};
 ghost use Rattle.numbers.specs.Choice.{if_then_else_, _<?_};
 ghost use Rattle.sound.specs.Clock.{periods};
 ghost use Rattle.dsp.specs.Noise.{FitNoise};
-ghost use Rattle.dsp.specs.Fit.{FitGlob, Fit};
+ghost use Rattle.dsp.specs.Fit.{FitGlob, Fit, fit};
 ghost use Rattle.dsp.specs.Machine.{apart, together};
 ghost use Rattle.dsp.specs.Tick.{polls, globTick, sharedFrom, Bench, benchOf, ticksOf, Drove, driveOf, After, stepOf};
 use crate::echo::put_pair;
@@ -135,7 +135,7 @@ impl Dsp {
         sheet: &mut [u8],
     ) -> Self
         requires { ⌜ (length (now ram) ≡ 0x10000) × Fit self × (n < 0x10000) × (length (now pcm) ≡ n * 4) × (length (now sheet) ≡ n * 36) ⌝ }
-        ensures { λ r. ⌜ _≡_ {A = Bench} (record { parts = apart r; ram = now (ram .exit); pcm = now (pcm .exit); sheet = now (sheet .exit); old = [] }) (ticksOf work n (benchOf self (now (ram .entry)) (now (sheet .entry)))) ⌝ }
+        ensures { λ r. ⌜ (_≡_ {A = Bench} (record { parts = apart r; ram = now (ram .exit); pcm = now (pcm .exit); sheet = now (sheet .exit); old = [] }) (ticksOf work n (benchOf self (now (ram .entry)) (now (sheet .entry))))) × Fit r ⌝ }
     {
         let table = gauss_table();
         let rates = rate_table();
@@ -208,7 +208,7 @@ impl Dsp {
         pcm: &mut [u8],
         sheet: &mut [u8],
     ) -> Answer
-        ensures { λ r. ⌜ _≡_ {A = Drove} (record { refusal = r .refusal; dsp = r .dsp; ram = now (ram .exit); pcm = now (pcm .exit); sheet = now (sheet .exit) }) (driveOf work count self (now (ram .entry)) (now (pcm .entry)) (now (sheet .entry))) ⌝ }
+        ensures { λ r. ⌜ (_≡_ {A = Drove} (record { refusal = r .refusal; dsp = r .dsp; ram = now (ram .exit); pcm = now (pcm .exit); sheet = now (sheet .exit) }) (driveOf work count self (now (ram .entry)) (now (pcm .entry)) (now (sheet .entry)))) × (fit (r .dsp) ≡ fit self) ⌝ }
     {
         if ram.len() != RAM_SIZE {
             return refused(1, self);

@@ -1,15 +1,20 @@
 -- A slice that is lent in parts, one behind the other: what has been written stands before what was found.
 use mathlib.Core.Path.{_≡_, refl, sym, ap, subst, _∙_}
 use mathlib.Core.List.{List, [], _∷_, _++_, append-assoc, append-nil}
-use Prim.Native.Nat.{ℕ, _+_, _-_, _≤_}
+use Prim.Native.Nat.{ℕ, _+_, _-_, _≤_, _<_}
 use native.Mathlib.Omega.{arith}
-use lib.ListN.{length, take, drop, length-append, length-drop, take-append-drop, drop-of-length-le}
-use lib.Seq.{length-take-le, take-at, drop-at, drop-drop, sets, sets-eq}
+use native.Mathlib.Numerals.{add-one}
+use lib.ListN.{length, take, drop, set, length-append, length-drop, take-append-drop, drop-of-length-le}
+use lib.Seq.{length-take-le, take-suc-set, take-at, drop-at, drop-drop, sets, sets-eq}
 use borrow.Rule.Slice.PartMut.{putMid, midOf, postOf}
 
 -- stores from 0 on that fill a list
 pub filled : {X : Type 0} (vs xs : List X) → length xs ≡ length vs → sets xs 0 vs ≡ vs
 filled {X} vs xs e = sets-eq vs xs 0 (omega arith) ∙ ap (λ (l : List X). vs ++ l) (drop-of-length-le xs {i = 0 + length vs} (omega arith)) ∙ append-nil vs
+
+-- what has been written so far grows by one store
+pub one-more : {X : Type 0} (xs : List X) (q : ℕ) (v w : X) → v ≡ w → q < length xs → take (q + 1) (set xs q v) ≡ take q xs ++ (w ∷ [])
+one-more xs q v w e h = rw (e, add-one q) (take-suc-set xs q w h)
 
 -- the first `a` are those of `done`, the others as in `old`
 pub record Written {X : Type 0} (old new : List X) (a : ℕ) (done : List X) : Type 0 where

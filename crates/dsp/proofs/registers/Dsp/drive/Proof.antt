@@ -12,7 +12,7 @@ use borrow.Rule.Slice.PartMut.{midOf, mid-len}
 use Rattle.numbers.proofs.Range.{landed}
 use Rattle.numbers.proofs.Parts.{unwritten, all-written}
 use Rattle.dsp.specs.Machine.{noVoice, Parts, apart}
-use Rattle.dsp.specs.Fit.{FitGlob}
+use Rattle.dsp.specs.Fit.{FitGlob, Fit}
 use Rattle.dsp.specs.Noise.{FitNoise}
 use Rattle.dsp.specs.Sheet.{pairBytes}
 use Rattle.dsp.specs.Lane.{turned}
@@ -20,7 +20,7 @@ use Rattle.dsp.specs.Tick.{frameOf, ticksOf}
 use Rattle.dsp.specs.declared.voice.Voice.{Voice}
 use Rattle.dsp.specs.declared.lane.Acc.{Acc}
 use Rattle.dsp.specs.declared.registers.Glob.{Glob}
-use Rattle.dsp.proofs.Ticks.{glob-kept}
+use Rattle.dsp.proofs.Ticks.{glob-kept, bench-fit}
 use Rattle.dsp.proofs.Drives.{roundOf, Lanes, lanes-first, lane-on, lanes-sized, benchAt, Driven, tick-on, sheet-sized, pcm-sized}
 use Rattle.dsp.proofs.registers.Dsp.drive.Statement.{statement}
 use Rattle.dsp.proofs.registers.Dsp.drive.Tie as tie
@@ -268,9 +268,11 @@ returns c = let l = c .before .before .loop in
     let n : l .i ≡ a .n = omega (arith, c .before .loop-test .left, l .inv .0) in
     let e₁ : l .i * 4 ≡ length (a .pcm .now) = omega (arith, n, s .pre .3) in
     let e₂ : l .i * 36 ≡ length (a .sheet .now) = omega (arith, n, s .pre .4) in
-    (λ k. record { parts = apart (c .with-parts .ensures k); ram = l .ram; pcm = all-written (d .heard) e₁ k; sheet = all-written (d .shown) e₂ k; old = sym (drop-of-length-le (a .sheet .now) {i = l .i * 36} (omega (arith, e₂))) k })
-    ∙ d .is
-    ∙ (λ k. ticksOf (a .work) (n k) (benchAt (partsOf (c .before .before .before .before .before .before .before .before .bytes .ensures k) (c .before .before .before .before .before .before .before .lanes .ensures k) (c .before .before .before .before .before .before .delays .ensures k) (a .self .«fir_coeff») (a .self .«fir_history_l») (a .self .«fir_history_r») (c .before .before .before .glob .ensures k)) (a .ram .now) [] [] (a .sheet .now)))
+    let f = subst Fit (sym (c .with-parts .ensures)) (bench-fit _ (d .fit)) in
+    let e = (λ k. record { parts = apart (c .with-parts .ensures k); ram = l .ram; pcm = all-written (d .heard) e₁ k; sheet = all-written (d .shown) e₂ k; old = sym (drop-of-length-le (a .sheet .now) {i = l .i * 36} (omega (arith, e₂))) k })
+        ∙ d .is
+        ∙ (λ k. ticksOf (a .work) (n k) (benchAt (partsOf (c .before .before .before .before .before .before .before .before .bytes .ensures k) (c .before .before .before .before .before .before .before .lanes .ensures k) (c .before .before .before .before .before .before .delays .ensures k) (a .self .«fir_coeff») (a .self .«fir_history_l») (a .self .«fir_history_r») (c .before .before .before .glob .ensures k)) (a .ram .now) [] [] (a .sheet .now))) in
+    (e, f)
 
 pub drive-spec : {M : Type 1} → statement M
 drive-spec =
