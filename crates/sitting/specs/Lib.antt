@@ -1,0 +1,3 @@
+pub mod Play
+pub mod Stand
+pub mod Run
