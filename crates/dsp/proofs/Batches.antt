@@ -34,7 +34,7 @@ unfolding tickOf voicesTick turn
 tick-part w old rest p ram h =
     let c = sharedOf (p .glob) (p .registers) in
     let same : (j : ℕ) (r : Round) → j < 8 → turn (w .voices) (old ++ rest) c ram j r ≡ turn (w .voices) old c ram j r =
-        (λ j r l. ap (λ (slot : List ℕ). landing j r (turned (bit (w .voices) j) c ram j (getD (r .voices) j noVoice) (getD (r .delays) j 0) (r .acc) (r .bytes) slot)) (lane-part j old rest (omega (arith, h, l)))) in
+    (λ j r l. ap (λ (slot : List ℕ). landing j r (turned (bit (w .voices) j) c ram j (getD (r .voices) j noVoice) (getD (r .delays) j 0) (r .acc) (r .bytes) slot)) (lane-part j old rest (omega (arith, h, l)))) in
     let r = turns-same (turn (w .voices) (old ++ rest) c ram) (turn (w .voices) old c ram) 8 same 8 (startOf p) (omega arith) in
     let e = lane-part 8 old rest (omega (arith, h)) in
     λ i. mixed (p .taps) (r i) (echoLane (w .echo) (globTick (p .glob)) (p .taps) (p .left) (p .right) ram (r i .acc .input) (e i))

@@ -117,6 +117,14 @@ most (r ∷ rs) stop t q T Q e =
     let m = most rs stop (t + ticksOf r) (q + readingsOf r) T Q (c .rest-is) in
     (omega (arith, m .0), omega (arith, m .1))
 
+-- and no log has more than 32,000 ticks
+pub few-in-all : (rs : List Record) (stop t q T Q : ℕ) → t ≤ 32000 → total rs stop t q ≡ good T Q → T ≤ 32000
+unfolding total
+few-in-all [] stop t q T Q l e = let n = ends stop t q T Q e in omega (arith, n .ticks)
+few-in-all (r ∷ rs) stop t q T Q l e =
+    let c = counts (32000 <? t + ticksOf r) t (ticksOf r) T Q (total rs stop (t + ticksOf r) (q + readingsOf r)) refl e in
+    few-in-all rs stop (t + ticksOf r) (q + readingsOf r) T Q (c .few) (c .rest-is)
+
 few-read : (r : Record) → readingsOf r ≤ 1
 few-read (Write r v) = omega arith
 few-read (Ticks k) = omega arith
@@ -163,10 +171,13 @@ module _ {log : List ℕ} {at t q : ℕ} {n : Next} (here : Here log at t q) (is
 pub record Taken (log : List ℕ) (m : Measured) : Type 0 where
   pub short : length log ≤ 60000
   pub all : totalOf (decode log) 0 0 ≡ good (m .ticks) (m .readings)
+  pub few : m .ticks ≤ 32000
 
 taken-if : (b : Bool) (log : List ℕ) (m : Measured) → (60000 <? length log) ≡ b → m ≡ (if b then refusedBy 3 else totalOf (decode log) 0 0) → m .refusal ≡ 0 → Taken log m
 taken-if true log m eb e z = let y : m .refusal ≡ 3 = ap (λ (x : Measured). x .refusal) e in absurd (omega arith)
-taken-if false log m eb e z = record { short = ltb-false 60000 (length log) eb; all = sym e ∙ ap (λ (k : ℕ). record { refusal = k; ticks = m .ticks; readings = m .readings }) z }
+taken-if false log m eb e z =
+    let g = sym e ∙ ap (λ (k : ℕ). record { refusal = k; ticks = m .ticks; readings = m .readings }) z in
+    record { short = ltb-false 60000 (length log) eb; all = g; few = few-in-all (decode log .records) (decode log .stop) 0 0 (m .ticks) (m .readings) (omega arith) g }
 
 pub taken : (log : List ℕ) (m : Measured) → m ≡ measureOf log → m .refusal ≡ 0 → Taken log m
 unfolding measureOf

@@ -1,6 +1,6 @@
 -- What holds of both holds of the chosen one.
-use mathlib.Core.Bool.{Bool, true, false, not}
-use mathlib.Core.Path.{_≡_, refl, sym}
+use mathlib.Core.Bool.{Bool, true, false}
+use mathlib.Core.Path.{_≡_}
 use Prim.Native.Nat.{ℕ, _+_, _≤_, _<_}
 use Rattle.numbers.specs.Choice.{if_then_else_}
 use Rattle.numbers.specs.Unsigned.{least}
@@ -34,12 +34,3 @@ least-before a b k =
       | yes e ↦ rw (le-leb _ _ e)
       | no e ↦ rw (least-top a k (omega arith), least-top (k + b) k (omega arith), least-top (a + b) k (omega arith))
     ]
-
--- a test that is turned over
-pub not-yes : (b : Bool) → not b ≡ true → b ≡ false
-not-yes true e = sym e
-not-yes false e = refl
-
-pub not-no : (b : Bool) → not b ≡ false → b ≡ true
-not-no true e = refl
-not-no false e = sym e

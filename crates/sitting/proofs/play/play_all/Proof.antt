@@ -1,6 +1,5 @@
 -- What has been played and what is left of the log give the whole run.
 use borrow.Author.Needs.{needs}
-
 use mathlib.Core.Path.{_≡_, refl, _∙_}
 use Prim.Native.Nat.{_-_}
 use native.Mathlib.Omega.{arith}
@@ -21,7 +20,6 @@ Inv-loop work ram₀ log pcm₀ sheet₀ readings₀ s₀ at₀ ram pcm sheet re
 abbrev μ-loop : tie.MeasureT-loop
 μ-loop work ram₀ log pcm₀ sheet₀ readings₀ s₀ at₀ ram pcm sheet readings s at =
     length log - at
-
 
 -- the turn, where the log goes on
 turn : (c : tie.After-known-told Inv-loop μ-loop)

@@ -270,8 +270,8 @@ returns c = let l = c .before .before .loop in
     let e₂ : l .i * 36 ≡ length (a .sheet .now) = omega (arith, n, s .pre .4) in
     let f = subst Fit (sym (c .with-parts .ensures)) (bench-fit _ (d .fit)) in
     let e = (λ k. record { parts = apart (c .with-parts .ensures k); ram = l .ram; pcm = all-written (d .heard) e₁ k; sheet = all-written (d .shown) e₂ k; old = sym (drop-of-length-le (a .sheet .now) {i = l .i * 36} (omega (arith, e₂))) k })
-        ∙ d .is
-        ∙ (λ k. ticksOf (a .work) (n k) (benchAt (partsOf (c .before .before .before .before .before .before .before .before .bytes .ensures k) (c .before .before .before .before .before .before .before .lanes .ensures k) (c .before .before .before .before .before .before .delays .ensures k) (a .self .«fir_coeff») (a .self .«fir_history_l») (a .self .«fir_history_r») (c .before .before .before .glob .ensures k)) (a .ram .now) [] [] (a .sheet .now))) in
+    ∙ d .is
+    ∙ (λ k. ticksOf (a .work) (n k) (benchAt (partsOf (c .before .before .before .before .before .before .before .before .bytes .ensures k) (c .before .before .before .before .before .before .before .lanes .ensures k) (c .before .before .before .before .before .before .delays .ensures k) (a .self .«fir_coeff») (a .self .«fir_history_l») (a .self .«fir_history_r») (c .before .before .before .glob .ensures k)) (a .ram .now) [] [] (a .sheet .now))) in
     (e, f)
 
 pub drive-spec : {M : Type 1} → statement M
