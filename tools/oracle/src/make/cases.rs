@@ -30,7 +30,7 @@ pub fn cases(kind: &str, count: usize, seed: u64) -> Result<Made, String> {
     let made = match kind {
         "random" => with_random(nothing(), &mut random, count, IMAGES, whole),
         "mixed" => with_random(nothing(), &mut random, count, IMAGES, some_damaged),
-        "directed" => with_random(directed::all(), &mut random, count, IMAGES_STORED, whole),
+        "directed" => stored(&mut random, count),
         _ => return Err(format!("{kind} is no kind of cases")),
     };
     if made.cases.len() > CASES_MOST {
@@ -45,6 +45,12 @@ fn nothing() -> Made {
         rams: Vec::new(),
         names: String::new(),
     }
+}
+
+fn stored(random: &mut Random, count: usize) -> Made {
+    let mut made = with_random(directed::all(), random, count, IMAGES_STORED, whole);
+    made.rams.extend(directed::wrong_rams());
+    made
 }
 
 fn whole(_: &mut Random, records: Vec<Record>) -> Vec<u8> {
@@ -138,7 +144,9 @@ mod tests {
         let made = cases("directed", 3, 1).unwrap();
         let named = made.names.lines().count();
         assert_eq!(made.cases.len(), named + 3);
-        assert_eq!(made.rams.len(), 1 + IMAGES_STORED);
+        assert_eq!(made.rams.len(), 1 + IMAGES_STORED + 2);
+        let images: Vec<_> = made.cases[named..].iter().map(|case| case.ram).collect();
+        assert!(images.iter().all(|image| [1, 2].contains(image)));
     }
 
     #[test]
