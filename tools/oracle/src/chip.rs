@@ -5,6 +5,7 @@ use apu::memory::RawARAM;
 
 use crate::bytes::{digest, Bytes, Digest};
 use crate::log::{self, Record, Refusal};
+use crate::sheet;
 
 /// Left and right, 16 bits each.
 const SAMPLE_SIZE: usize = 4;
@@ -18,6 +19,8 @@ pub struct Outcome {
     pub ram: Box<RawARAM>,
     /// Left, right, 16 bits, low byte first.
     pub pcm: Vec<u8>,
+    /// 36 bytes a tick.
+    pub sheet: Vec<u8>,
     /// Digest of, tick by tick, the 128 registers after it, EDL and PMON as
     /// used, its sample and RAM.
     pub trace: u64,
@@ -32,6 +35,7 @@ pub fn run(log: &[u8], ram: Vec<u8>) -> Result<Outcome, Refusal> {
     let mut readings = Vec::new();
     let mut ticks = 0;
     let mut pcm = Bytes::new();
+    let mut sheet = Bytes::new();
     let mut trace = Digest::new();
     for record in records {
         match record {
@@ -41,6 +45,7 @@ pub fn run(log: &[u8], ram: Vec<u8>) -> Result<Outcome, Refusal> {
                 ticks += usize::from(count);
                 for _ in 0..count {
                     tick(&mut dsp, &mut ram, &mut pcm);
+                    sheet::put_row(&mut sheet, &dsp);
                     trace.bytes(&registers(&dsp));
                     trace.bytes(&[dsp.edl(), dsp.pmon()]);
                     trace.bytes(&pcm.0[pcm.0.len() - SAMPLE_SIZE..]);
@@ -56,6 +61,7 @@ pub fn run(log: &[u8], ram: Vec<u8>) -> Result<Outcome, Refusal> {
         registers: registers(&dsp),
         ram,
         pcm: pcm.0,
+        sheet: sheet.0,
         trace: trace.0,
     })
 }
@@ -83,7 +89,7 @@ fn tick(dsp: &mut Dsp, ram: &mut RawARAM, pcm: &mut Bytes) {
 }
 
 /// The program's lines of document 01 (Q and END), then the registers and
-/// the digests of RAM and PCM.
+/// the digests of RAM, PCM and sheet.
 pub fn report(result: &Result<Outcome, Refusal>) -> String {
     let outcome = match result {
         Ok(outcome) => outcome,
@@ -99,6 +105,7 @@ pub fn report(result: &Result<Outcome, Refusal>) -> String {
     }
     text += &format!("\nRAM {:016X}\n", digest(&outcome.ram[..]));
     text += &format!("PCM {:016X}\n", digest(&outcome.pcm));
+    text += &format!("SHEET {:016X}\n", digest(&outcome.sheet));
     text
 }
 
@@ -116,7 +123,22 @@ mod tests {
     fn example_prints_its_lines() {
         let text = report(&run(b"QAlND", zero_ram()));
         assert!(text.starts_with("Q 1 6C E0\nEND 0 1\nREG 00 "));
-        assert_eq!(text.lines().count(), 5);
+        assert!(text.ends_with("\nPCM CBF29CE484222325\nSHEET CBF29CE484222325\n"));
+        assert_eq!(text.lines().count(), 6);
+    }
+
+    /// One row for each tick, over all `TK` records, as things stand after it.
+    #[test]
+    fn the_sheet_has_36_bytes_a_tick() {
+        let log = b"RW\x7C\x01TK\x02\x00RW\x7C\x80TK\x01\x00ND";
+        let outcome = run(log, zero_ram()).ok().unwrap();
+        let mut wanted = [0; 3 * 36];
+        wanted[3] = 1;
+        wanted[36 + 3] = 1;
+        wanted[72 + 31] = 1;
+        assert_eq!(outcome.sheet, wanted);
+        let line = format!("\nSHEET {:016X}\n", digest(&wanted));
+        assert!(report(&Ok(outcome)).ends_with(&line));
     }
 
     #[test]

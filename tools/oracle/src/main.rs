@@ -14,6 +14,7 @@ mod make;
 mod random;
 mod registers;
 mod selfcheck;
+mod sheet;
 mod trace;
 
 const USAGE: &str = "usage: oracle nibble | block | interpolate | envelope | noise | selfcheck \

@@ -8,31 +8,27 @@ const TICKS: usize = 300;
 
 pub fn damaged(random: &mut Random) -> Made {
     let ticks = random.between(1, TICKS);
-    let (mut records, ram) = plain::plain(random, ticks);
+    let (records, ram) = plain::plain(random, ticks);
+    let log = damage(random, records);
+    Made { log, ram }
+}
+
+/// The bytes of a valid log with one random damage.
+pub fn damage(random: &mut Random, mut records: Vec<Record>) -> Vec<u8> {
     let place = random.below(records.len());
-    let log = match random.below(8) {
-        0 => cut(random, &records),
-        1 => byte_changed(random, &records),
-        2 => bytes_added(random, &records),
-        3 => mark_changed(random, &records, place),
-        4 => {
-            records[place] = high_register(random);
-            encode(&records)
-        }
-        5 => {
-            records[place] = Record::Ticks(0);
-            encode(&records)
-        }
-        6 => {
-            records[place] = Record::Ticks(random.between(TICKS_MOST - TICKS, 0xFFFF) as u16);
-            encode(&records)
-        }
+    match random.below(8) {
+        0 => return cut(random, &records),
+        1 => return byte_changed(random, &records),
+        2 => return bytes_added(random, &records),
+        3 => return mark_changed(random, &records, place),
+        4 => records[place] = high_register(random),
+        5 => records[place] = Record::Ticks(0),
+        6 => records[place] = many_ticks(random),
         _ => {
             records.remove(place);
-            encode(&records)
         }
-    };
-    Made { log, ram }
+    }
+    encode(&records)
 }
 
 fn cut(random: &mut Random, records: &[Record]) -> Vec<u8> {
@@ -80,4 +76,9 @@ fn high_register(random: &mut Random) -> Record {
             value: random.byte(),
         }
     }
+}
+
+/// Mostly over 32,000 ticks, alone or with what is there.
+fn many_ticks(random: &mut Random) -> Record {
+    Record::Ticks(random.between(TICKS_MOST - TICKS, 0xFFFF) as u16)
 }

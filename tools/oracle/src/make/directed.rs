@@ -1,5 +1,6 @@
-//! Small cases by name, at least one for each rule of document 01 under
-//! voice.rs and mod.rs. The tables cite the rule above each row.
+//! Cases by name, at least one for each rule of document 01 under voice.rs
+//! and mod.rs, and for each refusal that a run from `new` can meet. The
+//! tables cite the rule above each row.
 
 mod echo;
 mod image;
@@ -17,7 +18,7 @@ use script::Script;
 /// What a case is called, and what it does from `new`.
 pub type Named = (&'static str, fn(&mut Script));
 
-/// All of them run on the one image.
+/// All of them run on the one image, but for those whose image is no RAM.
 pub fn all() -> Made {
     let named: Vec<_> = played().into_iter().chain(refused::cases()).collect();
     let line = |(number, (name, _)): (usize, &(&str, Case))| format!("{number} {name}\n");
@@ -26,6 +27,11 @@ pub fn all() -> Made {
         cases: named.into_iter().map(|(_, case)| case).collect(),
         rams: vec![image::image()],
     }
+}
+
+/// Images that are refused. They come after all others.
+pub fn wrong_rams() -> [Vec<u8>; 2] {
+    refused::rams()
 }
 
 fn played() -> Vec<(&'static str, Case)> {

@@ -31,7 +31,7 @@ pub fn case(random: &mut Random, number: usize) -> Option<Made> {
 
 /// The log with records before it, so that it has exactly this length:
 /// readings of 3 bytes until the gap is a multiple of 4, then writes.
-fn sized(random: &mut Random, log: &[u8], length: usize) -> Vec<u8> {
+pub fn sized(random: &mut Random, log: &[u8], length: usize) -> Vec<u8> {
     let mut before = Vec::new();
     while (length - log.len() - before.len()) % 4 != 0 {
         before.extend(Record::Reading(random.below(0x80) as u8).bytes());
