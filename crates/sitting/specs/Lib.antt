@@ -1,3 +1,4 @@
 pub mod Play
 pub mod Stand
 pub mod Run
+pub mod Parts

@@ -34,7 +34,7 @@ fn refused(refusal: u8, dsp: Dsp) -> Ran
 }
 
 // Every lane: all voices, and the echo.
-fn everything() -> Work
+pub(crate) fn everything() -> Work
     ensures { λ r. ⌜ r ≡ everything ⌝ }
 {
     Work {

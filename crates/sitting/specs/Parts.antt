@@ -1,0 +1,85 @@
+-- A run in parts: each works one record of the log, or some ticks of a TK record.
+use mathlib.Core.List.{List, [], _++_}
+use Prim.Native.Nat.{ℕ, _-_, _*_, _/_}
+use lib.ListN.{length, getD, drop}
+use Rattle.numbers.specs.Choice.{if_then_else_, _<?_, _=?_}
+use Rattle.numbers.specs.Unsigned.{least}
+use Rattle.dsp.specs.Machine.{together}
+use Rattle.dsp.specs.Fit.{fit}
+use Rattle.dsp.specs.Registers.{writeAt}
+use Rattle.dsp.specs.Tick.{everything, Bench, benchOf, ticksOf}
+use Rattle.dsp.specs.declared.registers.Dsp.{Dsp}
+use Rattle.log.specs.Log.{readAt}
+use Rattle.log.specs.declared.Record.{Record}
+use Rattle.log.specs.declared.Record.the-variants.{Write, Ticks, Reading}
+use Rattle.log.specs.declared.Next.{Next}
+use Rattle.log.specs.declared.Next.the-variants.{On, Off}
+use Rattle.sitting.specs.declared.parts.Heard.{Heard}
+use Rattle.sitting.specs.declared.parts.Heard.the-variants.{Nothing, Sound, Reading as Read, End}
+use Rattle.sitting.specs.declared.parts.Part.{Part}
+
+-- a part's answer: where the run then stands (the record, the place in the log, the ticks still to come), and what it put out
+pub record Told : Type 0 where
+  pub refusal : ℕ
+  pub dsp : Dsp
+  pub at : ℕ
+  pub left : ℕ
+  pub heard : Heard
+
+pub record Parted : Type 0 where
+  pub told : Told
+  pub ram : List ℕ
+  pub pcm : List ℕ
+
+abbrev pub toldBy : Part → Told
+toldBy p = record { refusal = p .refusal; dsp = p .stage .dsp; at = p .stage .at; left = p .stage .left; heard = p .heard }
+
+abbrev pub telling : Dsp → ℕ → ℕ → Heard → Told
+telling d at left heard = record { refusal = 0; dsp = d; at = at; left = left; heard = heard }
+
+abbrev pub untold : ℕ → Dsp → ℕ → ℕ → Told
+untold k d at left = record { refusal = k; dsp = d; at = at; left = left; heard = Nothing }
+
+-- ---- at a record
+
+-- no record: the end, or a refusal
+unfoldable pub stopAt : ℕ → Dsp → ℕ → Told
+stopAt k d at =
+    if k =? 0 then telling d at 0 End else
+    untold k d at 0
+
+unfoldable pub recordAt : Record → ℕ → Dsp → Told
+recordAt (Write r x) behind d = telling (writeAt r x d) behind 0 Nothing
+recordAt (Ticks n) behind d = telling d behind n Nothing
+recordAt (Reading r) behind d = telling d behind 0 (Read r (getD (d .registers) r 0))
+
+unfoldable pub nextAt : Next → Dsp → ℕ → Told
+nextAt (Off k) d at = stopAt k d at
+nextAt (On r behind) d at = recordAt r behind d
+
+-- ---- within a TK record
+
+-- as many ticks as are left, as the buffer holds, and at most 256
+unfoldable pub ticksNow : ℕ → ℕ → ℕ
+ticksNow left room = least (room / 4) (least left 256)
+
+abbrev pub soundingFrom : ℕ → ℕ → ℕ → List ℕ → Bench → Parted
+soundingFrom n at left pcm b =
+    record { told = telling (together (b .parts)) at (left - n) (Sound n); ram = b .ram; pcm = b .pcm ++ drop (n * 4) pcm }
+
+unfoldable pub sounding : ℕ → Dsp → ℕ → ℕ → List ℕ → List ℕ → Parted
+sounding n d at left ram pcm = soundingFrom n at left pcm (ticksOf everything n (benchOf d ram []))
+
+-- ---- a part
+
+-- 1, 2, 3; then 4 to 9 of what stands in the log, or 10 for a buffer without room for a tick
+unfoldable pub partOf : Dsp → ℕ → ℕ → List ℕ → List ℕ → List ℕ → Parted
+partOf d at left ram log pcm =
+    if length ram =? 0x10000 then
+    (if fit d then
+    (if 60000 <? length log then record { told = untold 3 d at left; ram = ram; pcm = pcm } else
+    if left =? 0 then record { told = nextAt (readAt log at) d at; ram = ram; pcm = pcm } else
+    if length pcm <? 4 then record { told = untold 10 d at left; ram = ram; pcm = pcm } else
+    sounding (ticksNow left (length pcm)) d at left ram pcm)
+    else record { told = untold 2 d at left; ram = ram; pcm = pcm })
+    else record { told = untold 1 d at left; ram = ram; pcm = pcm }
