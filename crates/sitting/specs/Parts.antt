@@ -1,6 +1,7 @@
 -- A run in parts: each works one record of the log, or some ticks of a TK record.
 use mathlib.Core.List.{List, [], _++_}
-use Prim.Native.Nat.{ℕ, _-_, _*_, _/_}
+use mathlib.Core.Path.{_≡_}
+use Prim.Native.Nat.{ℕ, _-_, _*_, _/_, _≤_, _<_}
 use lib.ListN.{length, getD, drop}
 use Rattle.numbers.specs.Choice.{if_then_else_, _<?_, _=?_}
 use Rattle.numbers.specs.Unsigned.{least}
@@ -83,3 +84,15 @@ partOf d at left ram log pcm =
     sounding (ticksNow left (length pcm)) d at left ram pcm)
     else record { told = untold 2 d at left; ram = ram; pcm = pcm })
     else record { told = untold 1 d at left; ram = ram; pcm = pcm }
+
+-- ---- that parts come to an end
+
+-- a record moves the place on, within the log; ticks leave fewer to come
+abbrev pub Moved : ℕ → ℕ → ℕ → Heard → ℕ → ℕ → ℕ → Type 0
+Moved at left size Nothing k at′ left′ = k ≡ 0 → (at < at′) × (at′ ≤ size)
+Moved at left size (Sound n) k at′ left′ = (at′ ≡ at) × (left′ < left)
+Moved at left size (Read r x) k at′ left′ = (at < at′) × (at′ ≤ size)
+Moved at left size End k at′ left′ = Unit {0}
+
+abbrev pub Goes : ℕ → ℕ → ℕ → Told → Type 0
+Goes at left size t = Moved at left size (t .heard) (t .refusal) (t .at) (t .left)

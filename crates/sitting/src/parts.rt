@@ -5,7 +5,7 @@ ghost use Prim.Native.Nat.{_*_, _≤_};
 ghost use lib.ListN.{length};
 ghost use Rattle.dsp.specs.Fit.{Fit};
 ghost use Rattle.log.specs.Log.{readAt, Known};
-ghost use Rattle.sitting.specs.Parts.{Parted, toldBy, telling, untold, stopAt, recordAt, nextAt, ticksNow, sounding, partOf};
+ghost use Rattle.sitting.specs.Parts.{Parted, toldBy, telling, untold, stopAt, recordAt, nextAt, ticksNow, sounding, partOf, Goes};
 use crate::running::everything;
 use dsp::Dsp;
 use log::Next;
@@ -102,7 +102,7 @@ impl Stage {
 
     fn at_record(self, log: &[u8]) -> Part
         requires { ⌜ (self .left ≡ 0) × Fit (self .dsp) ⌝ }
-        ensures { λ r. ⌜ toldBy r ≡ nextAt (readAt (now (log .entry)) (self .at)) (self .dsp) (self .at) ⌝ }
+        ensures { λ r. ⌜ (toldBy r ≡ nextAt (readAt (now (log .entry)) (self .at)) (self .dsp) (self .at)) × Goes (self .at) 0 (length (now (log .entry))) (toldBy r) ⌝ }
     {
         match read(log, self.at) {
             Next::Off(stop) => self.stopped(stop),
@@ -112,7 +112,8 @@ impl Stage {
 
     // As many ticks as are left, as the buffer holds, and as go in one call.
     fn ticks_now(self, room: usize) -> u16
-        ensures { λ r. ⌜ (r ≡ ticksNow (self .left) room) × (r ≤ self .left) × (r * 4 ≤ room) × (r ≤ 256) ⌝ }
+        requires { ⌜ (1 ≤ self .left) × (4 ≤ room) ⌝ }
+        ensures { λ r. ⌜ (r ≡ ticksNow (self .left) room) × (1 ≤ r) × (r ≤ self .left) × (r * 4 ≤ room) × (r ≤ 256) ⌝ }
     {
         let most = numbers::min(self.left, TICKS_AT_ONCE);
         if room / 4 < most as usize {
@@ -154,7 +155,7 @@ fn told(dsp: Dsp, at: usize, left: u16, heard: Heard) -> Part
 // One part. Refuses 1, 2, 3; then, with no ticks left, what stands in the log by 4 to 9, and with some, a buffer without
 // room for one by 10. That a log has no more than 32,000 ticks in all is for `measure` to say, before the first part.
 pub fn run_part(stage: Stage, ram: &mut [u8], log: &[u8], pcm: &mut [u8]) -> Part
-    ensures { λ r. ⌜ _≡_ {A = Parted} (record { told = toldBy r; ram = now (ram .exit); pcm = now (pcm .exit) }) (partOf (stage .dsp) (stage .at) (stage .left) (now (ram .entry)) (now (log .entry)) (now (pcm .entry))) ⌝ }
+    ensures { λ r. ⌜ (_≡_ {A = Parted} (record { told = toldBy r; ram = now (ram .exit); pcm = now (pcm .exit) }) (partOf (stage .dsp) (stage .at) (stage .left) (now (ram .entry)) (now (log .entry)) (now (pcm .entry)))) × Goes (stage .at) (stage .left) (length (now (log .entry))) (toldBy r) ⌝ }
 {
     let d = stage.dsp;
     if ram.len() != RAM_SIZE {
