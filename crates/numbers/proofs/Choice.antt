@@ -34,3 +34,10 @@ least-before a b k =
       | yes e ↦ rw (le-leb _ _ e)
       | no e ↦ rw (least-top a k (omega arith), least-top (k + b) k (omega arith), least-top (a + b) k (omega arith))
     ]
+
+pub least-both : (a b : ℕ) → (least a b ≤ a) × (least a b ≤ b) × ((k : ℕ) → k ≤ a → k ≤ b → k ≤ least a b)
+least-both a b =
+    elim (decLe a b) [
+      | yes e ↦ rw (le-leb _ _ e) (le-refl a, e, λ k l m. l)
+      | no e ↦ let l : b < a = omega arith in rw (lt-leb _ _ l) (omega arith, le-refl b, λ k x y. y)
+    ]

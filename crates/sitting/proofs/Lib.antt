@@ -1,3 +1,4 @@
 pub mod Batch
 pub mod Plays
 pub mod Runs
+pub mod Parting

@@ -24,13 +24,13 @@ ready log pcm sheet readings m t e =
 
 -- ---- the sheet that was found
 
-abbrev unseenBench : Bench → Bench
+abbrev pub unseenBench : Bench → Bench
 unseenBench b = record { parts = b .parts; ram = b .ram; pcm = b .pcm; sheet = b .sheet; old = [] }
 
 abbrev pub unseen : Run → Run
 unseen x = record { bench = unseenBench (x .bench); readings = x .readings }
 
-ticks-unseen : (n : ℕ) (b : Bench) → unseenBench (ticksOf everything n b) ≡ ticksOf everything n (unseenBench b)
+pub ticks-unseen : (n : ℕ) (b : Bench) → unseenBench (ticksOf everything n b) ≡ ticksOf everything n (unseenBench b)
 unfolding ticksOf benchTick
 ticks-unseen zero b = refl
 ticks-unseen (suc n) b =

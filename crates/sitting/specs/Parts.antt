@@ -60,9 +60,9 @@ nextAt (On r behind) d at = recordAt r behind d
 
 -- ---- within a TK record
 
--- as many ticks as are left, as the buffer holds, and at most 256
+-- as many ticks as are left, as the buffer holds, and at most 64
 unfoldable pub ticksNow : ℕ → ℕ → ℕ
-ticksNow left room = least (room / 4) (least left 256)
+ticksNow left room = least (room / 4) (least left 64)
 
 abbrev pub soundingFrom : ℕ → ℕ → ℕ → List ℕ → Bench → Parted
 soundingFrom n at left pcm b =

@@ -17,7 +17,7 @@ const RAM_SIZE: usize = 0x10000;
 const LOG_MOST: usize = 60000;
 
 // So many ticks go in one call of the chip at most, as a sheet of so many rows is kept aside.
-const TICKS_AT_ONCE: u16 = 256;
+const TICKS_AT_ONCE: u16 = 64;
 
 // Where a run in parts stands: the record, the place in the log, and the ticks of the TK record before it that are
 // still to come.
@@ -113,10 +113,10 @@ impl Stage {
     // As many ticks as are left, as the buffer holds, and as go in one call.
     fn ticks_now(self, room: usize) -> u16
         requires { ⌜ (1 ≤ self .left) × (4 ≤ room) ⌝ }
-        ensures { λ r. ⌜ (r ≡ ticksNow (self .left) room) × (1 ≤ r) × (r ≤ self .left) × (r * 4 ≤ room) × (r ≤ 256) ⌝ }
+        ensures { λ r. ⌜ (r ≡ ticksNow (self .left) room) × (1 ≤ r) × (r ≤ self .left) × (r * 4 ≤ room) × (r ≤ 64) ⌝ }
     {
         let most = numbers::min(self.left, TICKS_AT_ONCE);
-        if room / 4 < most as usize {
+        if room / 4 <= most as usize {
             (room / 4) as u16
         } else {
             most
@@ -124,10 +124,10 @@ impl Stage {
     }
 
     fn sounded(self, n: u16, ram: &mut [u8], pcm: &mut [u8]) -> Part
-        requires { ⌜ (length (now ram) ≡ 0x10000) × Fit (self .dsp) × (n ≤ self .left) × (n * 4 ≤ length (now pcm)) × (n ≤ 256) ⌝ }
+        requires { ⌜ (length (now ram) ≡ 0x10000) × Fit (self .dsp) × (n ≤ self .left) × (n * 4 ≤ length (now pcm)) × (n ≤ 64) ⌝ }
         ensures { λ r. ⌜ _≡_ {A = Parted} (record { told = toldBy r; ram = now (ram .exit); pcm = now (pcm .exit) }) (sounding n (self .dsp) (self .at) (self .left) (now (ram .entry)) (now (pcm .entry))) ⌝ }
     {
-        let mut sheet = [0; 9216];
+        let mut sheet = blank_rows();
         let to = (n as usize) * 4;
         let end = (n as usize) * 36;
         let d = self.dsp;
@@ -137,14 +137,17 @@ impl Stage {
     }
 }
 
+// The rows of 64 ticks.
+fn blank_rows() -> [u8; 2304]
+    ensures { λ r. ⌜ length r ≡ 2304 ⌝ }
+{
+    [0; 2304]
+}
+
 fn told(dsp: Dsp, at: usize, left: u16, heard: Heard) -> Part
     ensures { λ r. ⌜ toldBy r ≡ telling dsp at left heard ⌝ }
 {
-    let stage = Stage {
-        dsp,
-        at,
-        left,
-    };
+    let stage = Stage { dsp, at, left };
     Part {
         refusal: 0,
         stage,

@@ -1,95 +1,82 @@
+-- By the refusals, in their order; then the record that stands there, or ticks.
 use borrow.Author.Needs.{needs}
+use mathlib.Core.Path.{_≡_, sym, ap, subst, _∙_}
+use Prim.Native.Nat.{ℕ, _≤_}
+use native.Mathlib.Omega.{arith}
+use lib.ListN.{length}
+use borrow.Author.Tests.{eq-eqb, ne-eqb, lt-ltb, le-ltb, not-true, not-false}
+use Rattle.dsp.proofs.Fits.{fit-facts}
+use Rattle.sitting.specs.Parts.{Parted, sounding, partOf, Goes}
+use Rattle.sitting.proofs.Parting.{refused-goes, sound-goes}
 use Rattle.sitting.proofs.parts.run_part.Statement.{statement}
 use Rattle.sitting.proofs.parts.run_part.Tie as tie
-use Rattle.sitting.proofs.parts.run_part.Reads as reads
-use Rattle.sitting.proofs.parts.run_part.Lts as lts
-use Rattle.dsp.proofs.registers.Dsp.is_fit.Reads as is-fit-reads
-use Rattle.sitting.proofs.parts.Stage.at_record.Reads as at-record-reads
-use Rattle.sitting.proofs.parts.Stage.refused.Reads as refused-reads
-use Rattle.sitting.proofs.parts.Stage.sounded.Reads as sounded-reads
-use Rattle.sitting.proofs.parts.Stage.ticks_now.Reads as ticks-now-reads
 
--- src/parts.rt:161:9
-refused-requires : tie.Need-refused-requires
-refused-requires c κs = search needs
-
--- src/parts.rt:161:9
 returns : tie.Need-returns
-returns c = ?
+unfolding partOf
+returns c = let a = c .before .before .before .before .before .before .args in
+    (rw (ne-eqb _ _ (c .before .if1 .taken)) (λ i. record { told = c .refused .ensures i; ram = a .ram .now; pcm = a .pcm .now }), subst (Goes (a .stage .at) (a .stage .left) (length (a .log .now))) (sym (c .refused .ensures)) (refused-goes 0 (a .stage .at) (a .stage .left) (length (a .log .now)) (a .stage .at) (a .stage .left) (a .stage .dsp)))
 
--- src/parts.rt:163:9
-is-fit-requires : tie.Need-is-fit-requires
-is-fit-requires c κs = search needs
-
--- src/parts.rt:164:9
-refused-requires-2 : tie.Need-refused-requires-2
-refused-requires-2 c κs = search needs
-
--- src/parts.rt:164:9
 returns-2 : tie.Need-returns-2
-returns-2 c = ?
+unfolding partOf
+returns-2 c = let a = c .before .before .before .before .before .before .before .before .args in
+    let e : length (c .before .before .before .before .before .before .before .before .args .ram .now) ≡ 0x10000 = omega (arith, c .before .before .before .if1 .left) in
+    (rw (eq-eqb _ _ e, sym (c .before .before .is-fit .ensures) ∙ not-true _ (c .before .if2 .taken)) (λ i. record { told = c .refused2 .ensures i; ram = a .ram .now; pcm = a .pcm .now }), subst (Goes (a .stage .at) (a .stage .left) (length (a .log .now))) (sym (c .refused2 .ensures)) (refused-goes 1 (a .stage .at) (a .stage .left) (length (a .log .now)) (a .stage .at) (a .stage .left) (a .stage .dsp)))
 
--- src/parts.rt:167:9
-refused-requires-3 : tie.Need-refused-requires-3
-refused-requires-3 c κs = search needs
-
--- src/parts.rt:167:9
 returns-3 : tie.Need-returns-3
-returns-3 c = ?
+unfolding partOf
+returns-3 c = let a = c .before .before .before .before .before .before .before .before .before .args in
+    let e : length (c .before .before .before .before .before .before .before .before .before .args .ram .now) ≡ 0x10000 = omega (arith, c .before .before .before .before .if1 .left) in
+    (rw (eq-eqb _ _ e, sym (c .before .before .before .is-fit .ensures) ∙ not-false _ (c .before .before .if2 .left), lt-ltb _ _ (c .before .if3 .taken)) (λ i. record { told = c .refused3 .ensures i; ram = a .ram .now; pcm = a .pcm .now }), subst (Goes (a .stage .at) (a .stage .left) (length (a .log .now))) (sym (c .refused3 .ensures)) (refused-goes 2 (a .stage .at) (a .stage .left) (length (a .log .now)) (a .stage .at) (a .stage .left) (a .stage .dsp)))
 
--- src/parts.rt:170:9
 at-record-requires : tie.Need-at-record-requires
-at-record-requires c κs = ?
+at-record-requires c κs = (c .if4 .taken, fit-facts _ (sym (c .before .before .before .before .is-fit .ensures) ∙ not-false _ (c .before .before .before .if2 .left)))
 
--- src/parts.rt:170:9
 returns-4 : tie.Need-returns-4
-returns-4 c = ?
+unfolding partOf
+returns-4 c = let a = c .before .before .before .before .before .before .before .before .before .before .before .args in
+    let e : length (c .before .before .before .before .before .before .before .before .before .before .before .args .ram .now) ≡ 0x10000 = omega (arith, c .before .before .before .before .before .before .if1 .left) in
+    let r = c .at-record .ensures in
+    (rw (eq-eqb _ _ e, sym (c .before .before .before .before .before .is-fit .ensures) ∙ not-false _ (c .before .before .before .before .if2 .left), le-ltb _ _ (c .before .before .before .if3 .left), eq-eqb _ _ (c .before .if4 .taken)) (λ i. record { told = r .0 i; ram = a .ram .now; pcm = a .pcm .now }), rw (c .before .if4 .taken) (r .1))
 
--- src/parts.rt:173:9
-refused-requires-4 : tie.Need-refused-requires-4
-refused-requires-4 c κs = search needs
-
--- src/parts.rt:173:9
 returns-5 : tie.Need-returns-5
-returns-5 c = ?
+unfolding partOf
+returns-5 c = let a = c .before .before .before .before .before .before .before .before .before .before .before .before .args in
+    let e : length (c .before .before .before .before .before .before .before .before .before .before .before .before .args .ram .now) ≡ 0x10000 = omega (arith, c .before .before .before .before .before .before .before .if1 .left) in
+    (rw (eq-eqb _ _ e, sym (c .before .before .before .before .before .before .is-fit .ensures) ∙ not-false _ (c .before .before .before .before .before .if2 .left), le-ltb _ _ (c .before .before .before .before .if3 .left), ne-eqb _ _ (c .before .before .if4 .left), lt-ltb _ _ (c .before .if5 .taken)) (λ i. record { told = c .refused4 .ensures i; ram = a .ram .now; pcm = a .pcm .now }), subst (Goes (a .stage .at) (a .stage .left) (length (a .log .now))) (sym (c .refused4 .ensures)) (refused-goes 9 (a .stage .at) (a .stage .left) (length (a .log .now)) (a .stage .at) (a .stage .left) (a .stage .dsp)))
 
--- src/parts.rt:175:9
 ticks-now-requires : tie.Need-ticks-now-requires
-ticks-now-requires c κs = search needs
+ticks-now-requires c κs = (let l = c .before .if4 .left in omega (arith, l), let l = c .if5 .left in omega (arith, l))
 
--- src/parts.rt:176:5
 sounded-requires : tie.Need-sounded-requires
-sounded-requires c κs = ?
+sounded-requires c κs = let e : length (c .before .before .before .before .before .before .before .before .before .before .before .before .before .before .args .ram .now) ≡ 0x10000 = omega (arith, c .before .before .before .before .before .before .before .before .before .if1 .left) in
+    let t = c .before .before .ticks-now .ensures in
+    (e, fit-facts _ (sym (c .before .before .before .before .before .before .before .before .is-fit .ensures) ∙ not-false _ (c .before .before .before .before .before .before .before .if2 .left)), t .2, t .3, t .4)
 
--- src/parts.rt:156:1
-same-length : tie.Need-same-length
-same-length c = search needs
-
--- src/parts.rt:156:1
-same-length-2 : tie.Need-same-length-2
-same-length-2 c = search needs
-
--- src/parts.rt:156:1
 returns-6 : tie.Need-returns-6
-returns-6 c = ?
+unfolding partOf
+returns-6 c = let a = c .before .before .before .before .before .before .before .before .before .before .before .before .before .before .before .before .before .before .before .args in
+    let e : length (c .before .before .before .before .before .before .before .before .before .before .before .before .before .before .before .before .before .before .before .args .ram .now) ≡ 0x10000 = omega (arith, c .before .before .before .before .before .before .before .before .before .before .before .before .before .before .if1 .left) in
+    let t = c .before .before .before .before .before .before .before .ticks-now .ensures in
+    let x = c .before .before .before .before .sounded .ensures ∙ ap (λ (n : ℕ). sounding n (a .stage .dsp) (a .stage .at) (a .stage .left) (a .ram .now) (a .pcm .now)) (t .0) in
+    (rw (eq-eqb _ _ e, sym (c .before .before .before .before .before .before .before .before .before .before .before .before .before .is-fit .ensures) ∙ not-false _ (c .before .before .before .before .before .before .before .before .before .before .before .before .if2 .left), le-ltb _ _ (c .before .before .before .before .before .before .before .before .before .before .before .if3 .left), ne-eqb _ _ (c .before .before .before .before .before .before .before .before .before .if4 .left), le-ltb _ _ (c .before .before .before .before .before .before .before .before .if5 .left)) x, subst (λ (p : Parted). Goes (a .stage .at) (a .stage .left) (length (a .log .now)) (p .told)) (sym (c .before .before .before .before .sounded .ensures)) (sound-goes _ _ _ _ _ _ _ (t .1) (t .2)))
 
 pub run-part-spec : {M : Type 1} → statement M
 run-part-spec =
     tie.close
     (tie.spec
-    refused-requires
+    (λ c κs. search needs)
     returns
-    is-fit-requires
-    refused-requires-2
+    (λ c κs. search needs)
+    (λ c κs. search needs)
     returns-2
-    refused-requires-3
+    (λ c κs. search needs)
     returns-3
     at-record-requires
     returns-4
-    refused-requires-4
+    (λ c κs. search needs)
     returns-5
     ticks-now-requires
     sounded-requires
-    same-length
-    same-length-2
+    (λ c. search needs)
+    (λ c. search needs)
     returns-6)

@@ -1,68 +1,52 @@
+-- Each record by its callee.
 use borrow.Author.Needs.{needs}
+use mathlib.Core.Path.{_≡_, ap, subst, _∙_}
+use Prim.Native.Nat.{ℕ, _%_}
+use native.Mathlib.Omega.{arith}
+use lib.ListN.{getD}
+use Rattle.dsp.specs.Registers.{Written}
+use Rattle.dsp.specs.declared.registers.Dsp.{Dsp}
+use Rattle.dsp.proofs.Batches.{written}
+use Rattle.log.specs.Log.{Known}
+use Rattle.sitting.specs.Parts.{telling, recordAt}
+use Rattle.sitting.specs.declared.parts.Heard.the-variants.{Nothing, Reading as Read}
 use Rattle.sitting.proofs.parts.Stage.played.Statement.{statement}
 use Rattle.sitting.proofs.parts.Stage.played.Tie as tie
-use Rattle.sitting.proofs.parts.Stage.played.Reads as reads
-use Rattle.sitting.proofs.parts.Stage.played.Lts as lts
-use Rattle.dsp.proofs.registers.Dsp.read_reg.Reads as read-reg-reads
-use Rattle.dsp.proofs.registers.Dsp.write_reg.Reads as write-reg-reads
-use Rattle.sitting.proofs.parts.told.Reads as told-reads
 
--- src/parts.rt:88:29
-enum-known-found : tie.Need-enum-known-found
-enum-known-found c = search needs
-
--- src/parts.rt:90:21
-write-reg-requires : tie.Need-write-reg-requires
-write-reg-requires c κs = search needs
-
--- src/parts.rt:92:17
-told-requires : tie.Need-told-requires
-told-requires c κs = search needs
-
--- src/parts.rt:94:29
-enum-known-found-2 : tie.Need-enum-known-found-2
-enum-known-found-2 c = search needs
-
--- src/parts.rt:94:40
-told-requires-2 : tie.Need-told-requires-2
-told-requires-2 c κs = search needs
-
--- src/parts.rt:95:31
-enum-known-found-3 : tie.Need-enum-known-found-3
-enum-known-found-3 c = search needs
-
--- src/parts.rt:97:21
-read-reg-requires : tie.Need-read-reg-requires
-read-reg-requires c κs = search needs
-
--- src/parts.rt:98:17
-told-requires-3 : tie.Need-told-requires-3
-told-requires-3 c κs = search needs
-
--- src/parts.rt:83:5
 returns : tie.Need-returns
-returns c = ?
+unfolding recordAt
+returns c = let s = c .before .before .before .before .before .before .before in
+    let a = s .args in
+    let e = c .before .before .before .before .before .found .given .1 in
+    let w = c .before .before .write-reg .ensures ∙ written _ _ (a .self .dsp) (subst Known e (s .pre .1)) (s .pre .2) in
+    rw e (c .told .ensures ∙ ap (λ (x : Written). telling (x .dsp) (a .behind) 0 Nothing) w)
 
--- src/parts.rt:83:5
 returns-2 : tie.Need-returns-2
-returns-2 c = ?
+unfolding recordAt
+returns-2 c = rw (c .before .before .found2 .given .1) (c .told2 .ensures)
 
--- src/parts.rt:83:5
 returns-3 : tie.Need-returns-3
-returns-3 c = ?
+unfolding recordAt
+returns-3 c = let s = c .before .before .before .before .before .before in
+    let a = s .args in
+    let e = c .before .before .before .before .found3 .given .1 in
+    let l = subst Known e (s .pre .1) in
+    let m : c .before .before .before .before .found3 .given .0 .0 % 128 ≡ c .before .before .before .before .found3 .given .0 .0 = omega (arith, l) in
+    let v = c .before .read-reg .ensures ∙ ap (λ (k : ℕ). getD (a .self .dsp .registers) k 0) m in
+    rw e (c .told3 .ensures ∙ ap (λ (x : ℕ). telling (a .self .dsp) (a .behind) 0 (Read (c .before .before .before .before .found3 .given .0 .0) x)) v)
 
 pub played-spec : {M : Type 1} → statement M
 played-spec =
     tie.close
     (tie.spec
-    enum-known-found
-    write-reg-requires
-    told-requires
-    enum-known-found-2
-    told-requires-2
-    enum-known-found-3
-    read-reg-requires
-    told-requires-3
+    (λ c. search needs)
+    (λ c κs. search needs)
+    (λ c κs. search needs)
+    (λ c. search needs)
+    (λ c κs. search needs)
+    (λ c. search needs)
+    (λ c κs. search needs)
+    (λ c κs. search needs)
     returns
     returns-2
     returns-3)

@@ -1,78 +1,46 @@
+-- The ticks over the front of the buffer, and a sheet that is kept aside.
 use borrow.Author.Needs.{needs}
+use mathlib.Core.Path.{_≡_, sym}
+use Prim.Native.Nat.{ℕ, _*_, _≤_}
+use native.Mathlib.Omega.{arith}
+use lib.ListN.{length, take}
+use lib.Seq.{length-take-le}
+use Rattle.sitting.proofs.Parting.{sound-is}
 use Rattle.sitting.proofs.parts.Stage.sounded.Statement.{statement}
 use Rattle.sitting.proofs.parts.Stage.sounded.Tie as tie
-use Rattle.sitting.proofs.parts.Stage.sounded.Reads as reads
-use Rattle.sitting.proofs.parts.Stage.sounded.Lts as lts
-use Rattle.dsp.proofs.registers.Dsp.ticks.Reads as ticks-reads
-use Rattle.sitting.proofs.parts.told.Reads as told-reads
-use Rattle.sitting.proofs.running.everything.Reads as everything-reads
 
--- src/parts.rt:130:18
-mul-to : tie.Need-mul-to
-mul-to c = search needs
+-- so many rows of those that are kept aside
+rows-sized : (c : tie.After-blank-rows) (n : ℕ) → n * 36 ≤ 2304 → length (take (n * 36) (c .blank-rows .result)) ≡ n * 36
+rows-sized c n h = let e = c .blank-rows .ensures in length-take-le (n * 36) (c .blank-rows .result) (omega (arith, e, h))
 
--- src/parts.rt:131:19
-mul-end : tie.Need-mul-end
-mul-end c = search needs
-
--- src/parts.rt:133:25
-everything-requires : tie.Need-everything-requires
-everything-requires c κs = search needs
-
--- src/parts.rt:133:47
-slice-relend-prefix-ticks : tie.Need-slice-relend-prefix-ticks
-slice-relend-prefix-ticks c = search needs
-
--- src/parts.rt:133:47
 slice-aggregate-ticks : tie.Need-slice-aggregate-ticks
-slice-aggregate-ticks c = ?
+slice-aggregate-ticks c = sym (length-take-le (c .before .before .before .before .before .before .before .args .n * 4) (c .before .before .before .before .before .before .before .args .pcm .now) (c .before .before .before .before .before .before .before .pre .3))
 
--- src/parts.rt:133:63
-array-borrow-prefix-sheet : tie.Need-array-borrow-prefix-sheet
-array-borrow-prefix-sheet c = search needs
-
--- src/parts.rt:133:63
 slice-aggregate-ticks-2 : tie.Need-slice-aggregate-ticks-2
-slice-aggregate-ticks-2 c = ?
+slice-aggregate-ticks-2 c = sym (rows-sized (c .before .before .before .before .before) (c .before .before .before .before .before .before .before .before .args .n) (let l = c .before .before .before .before .before .before .before .before .pre .4 in omega (arith, l)))
 
--- src/parts.rt:133:13
-ticks-requires : tie.Need-ticks-requires
-ticks-requires c κs = search needs
-
--- src/parts.rt:135:26
-sub-told : tie.Need-sub-told
-sub-told c = search needs
-
--- src/parts.rt:135:9
-told-requires : tie.Need-told-requires
-told-requires c κs = search needs
-
--- src/parts.rt:125:5
-same-length : tie.Need-same-length
-same-length c = search needs
-
--- src/parts.rt:125:5
-same-length-2 : tie.Need-same-length-2
-same-length-2 c = search needs
-
--- src/parts.rt:125:5
 returns : tie.Need-returns
-returns c = ?
+returns c = let s = c .before .before .before .before .before .before .before .before .before .before .before .before .before .before .before .before .before in
+    let a = s .args in
+    let p = s .pre in
+    let l = p .4 in
+    sound-is _ (a .n) (a .self .dsp) (a .self .at) (a .self .left) (a .ram .now) (a .pcm .now) _ _ _ (c .before .before .before .before .before .before .before .before .before .before .before .before .everything .ensures) (p .0) (p .1) (p .3) (rows-sized (c .before .before .before .before .before .before .before .before .before .before .before .before .before .before) (a .n) (omega (arith, l))) (c .before .before .before .before .before .before .before .before .ticks .ensures .0) (c .told .ensures)
 
 pub sounded-spec : {M : Type 1} → statement M
 sounded-spec =
     tie.close
     (tie.spec
-    mul-to
-    mul-end
-    everything-requires
-    slice-relend-prefix-ticks
+    (λ c κs. search needs)
+    (λ c. search needs)
+    (λ c. search needs)
+    (λ c κs. search needs)
+    (λ c. search needs)
     slice-aggregate-ticks
-    array-borrow-prefix-sheet
+    (λ c. search needs)
     slice-aggregate-ticks-2
-    ticks-requires
-    sub-told
-    told-requires
-    same-length
-    same-length-2
+    (λ c κs. search needs)
+    (λ c. search needs)
+    (λ c κs. search needs)
+    (λ c. search needs)
+    (λ c. search needs)
     returns)

@@ -1,29 +1,34 @@
+-- The least of the three.
 use borrow.Author.Needs.{needs}
+use mathlib.Core.Path.{_≡_, sym, ap, _∙_}
+use Prim.Native.Nat.{_/_, _≤_, _<_}
+use native.Mathlib.Omega.{arith}
+use borrow.Author.Tests.{le-leb, lt-leb}
+use Rattle.numbers.specs.Unsigned.{least}
+use Rattle.numbers.proofs.Choice.{least-both}
+use Rattle.sitting.specs.Parts.{ticksNow}
 use Rattle.sitting.proofs.parts.Stage.ticks_now.Statement.{statement}
 use Rattle.sitting.proofs.parts.Stage.ticks_now.Tie as tie
-use Rattle.sitting.proofs.parts.Stage.ticks_now.Reads as reads
-use Rattle.sitting.proofs.parts.Stage.ticks_now.Lts as lts
-use Rattle.numbers.proofs.min.Reads as min-reads
 
--- src/parts.rt:117:13
-min-requires : tie.Need-min-requires
-min-requires c κs = search needs
-
--- src/parts.rt:118:23
-cast-if1 : tie.Need-cast-if1
-cast-if1 c = search needs
-
--- src/parts.rt:119:13
-cast-result : tie.Need-cast-result
-cast-result c = search needs
-
--- src/parts.rt:114:5
 returns : tie.Need-returns
-returns c = ?
+unfolding ticksNow
+returns c = let a = c .before .before .args in
+    let p = c .before .before .pre in
+    let m = c .before .min .ensures in
+    let b = least-both (a .self .left) 64 in
+    let t = c .if1 .taken in
+    let l : a .room / 4 ≤ least (a .self .left) 64 = omega (arith, t, m) in
+    (rw (le-leb _ _ l), omega (arith, p .1), omega (arith, l, b .0), omega arith, omega (arith, l, b .1))
 
--- src/parts.rt:114:5
 returns-2 : tie.Need-returns-2
-returns-2 c = ?
+unfolding ticksNow
+returns-2 c = let a = c .before .before .args in
+    let p = c .before .before .pre in
+    let m = c .before .min .ensures in
+    let b = least-both (a .self .left) 64 in
+    let t = c .if1 .left in
+    let l : least (a .self .left) 64 < a .room / 4 = omega (arith, t, m) in
+    (rw (lt-leb _ _ l) m, omega (arith, m, b .2 1 (p .0) (omega arith)), omega (arith, m, b .0), omega (arith, l, m), omega (arith, m, b .1))
 
 pub ticks-now-spec : {M : Type 1} → statement M
-ticks-now-spec = tie.close (tie.spec min-requires cast-if1 cast-result returns returns-2)
+ticks-now-spec = tie.close (tie.spec (λ c κs. search needs) (λ c. search needs) (λ c. search needs) returns returns-2)
