@@ -3,14 +3,11 @@ use mathlib.Core.Bool.{Bool, true, false}
 use mathlib.Core.List.{List}
 use mathlib.Core.Path.{_≡_, subst⁻¹}
 use Prim.Native.Nat.{ℕ, _/_, _*_, _≤_, _<_}
-use native.Mathlib.Nat.{le-refl}
-use native.Mathlib.Decide.{decLe}
 use native.Mathlib.Omega.{arith}
-use borrow.Author.Tests.{le-leb, lt-leb}
 use lib.ListN.{length}
-use Rattle.numbers.specs.Choice.{if_then_else_, _<?_, _≤?_, _=?_}
+use Rattle.numbers.specs.Choice.{_<?_, _=?_}
 use Rattle.numbers.specs.Unsigned.{least}
-use Rattle.numbers.proofs.Choice.{chosen}
+use Rattle.numbers.proofs.Choice.{chosen, least-both}
 use Rattle.dsp.specs.Fit.{fit}
 use Rattle.dsp.specs.declared.registers.Dsp.{Dsp}
 use Rattle.log.specs.Log.{readAt}
@@ -22,13 +19,6 @@ use Rattle.sitting.specs.Parts.{Told, Parted, stopAt, recordAt, nextAt, ticksNo
 use Rattle.sitting.specs.declared.parts.Heard.{Heard}
 use Rattle.sitting.specs.declared.parts.Heard.the-variants.{Nothing, Sound, Reading as Read, End}
 use Rattle.bench.specs.Turn.{Fits, Printed, weight}
-
-least-le-left : (a b : ℕ) → least a b ≤ a
-least-le-left a b =
-    elim (decLe a b) [
-      | yes e ↦ rw (le-leb _ _ e) (le-refl a)
-      | no e ↦ let l : b < a = omega arith in rw (lt-leb _ _ l) (omega arith)
-    ]
 
 module _ (d : Dsp) (at left : ℕ) (ram log pcm : List ℕ) where
   abbrev Lies : Parted → Type 0
@@ -44,7 +34,7 @@ module _ (d : Dsp) (at left : ℕ) (ram log pcm : List ℕ) where
 
   room : ticksNow left (length pcm) * 4 ≤ length pcm
   unfolding ticksNow
-  room = let l = least-le-left (length pcm / 4) (least left 256) in omega (arith, l)
+  room = let l = least-both (length pcm / 4) (least left 64) .0 in omega (arith, l)
 
   lies : Lies (partOf d at left ram log pcm)
   unfolding partOf sounding

@@ -15,17 +15,26 @@ pub enum Loaded {
     Unreadable,
 }
 
+// One read; 0 bytes at the input's end.
+fn some(fd: i32, buf: &mut [u8]) -> Took
+    ensures { λ r. ⌜ Within (length (now (buf .entry))) r ⌝ }
+{
+    let got = libc::read(fd, buf);
+    if got < 0 {
+        return Took::Failed;
+    }
+    Took::Bytes(io::count(got, buf))
+}
+
 // Reads until the buffer is full or the input ends.
 pub fn fill(fd: i32, buf: &mut [u8]) -> Took
     ensures { λ r. ⌜ Within (length (now (buf .entry))) r ⌝ }
 {
     let mut done: usize = 0;
     while done < buf.len() {
-        let got = libc::read(fd, &mut buf[done..]);
-        if got < 0 {
+        let Took::Bytes(n) = some(fd, &mut buf[done..]) else {
             return Took::Failed;
-        }
-        let n = io::count(got, buf);
+        };
         if n == 0 {
             return Took::Bytes(done);
         }

@@ -5,6 +5,8 @@ mod input;
 mod lines;
 mod running;
 
+ghost use Prim.Native.Nat.{_≤_};
+ghost use lib.ListN.{length};
 use input::Loaded;
 use input::Took;
 use lines::complain;
@@ -33,7 +35,9 @@ fn with_ram(ram: &mut [u8]) {
 }
 
 // The whole log is checked before out.pcm is opened.
-fn with_log(ram: &mut [u8], log: &[u8]) {
+fn with_log(ram: &mut [u8], log: &[u8])
+    requires { ⌜ length (now log) ≤ 0x10000 ⌝ }
+{
     let m = log::measure(log);
     if m.refusal != 0 {
         told(lines::refused(m.refusal));
@@ -43,7 +47,9 @@ fn with_log(ram: &mut [u8], log: &[u8]) {
 }
 
 // Where standard output is closed, its number goes to the file that is opened next.
-fn with_file(ram: &mut [u8], log: &[u8]) -> Ran {
+fn with_file(ram: &mut [u8], log: &[u8]) -> Ran
+    requires { ⌜ length (now log) ≤ 0x10000 ⌝ }
+{
     let out = os::open_overwrite(b"out.pcm");
     if out < 0 {
         return Ran::NoSound;

@@ -1,7 +1,7 @@
 -- By what the part put out.
 use borrow.Author.Needs.{needs}
 use mathlib.Core.Path.{_≡_, refl, sym, subst, subst⁻¹}
-use Prim.Native.Nat.{ℕ}
+use Prim.Native.Nat.{_+_}
 use lib.ListN.{length}
 use lib.Seq.{length-take-le}
 use Rattle.sitting.specs.declared.parts.Heard.{Heard}
@@ -19,13 +19,13 @@ put-out-spec =
     (λ c. search needs)
     (λ c. let s = c .before .before .before .before .before in sym (length-take-le _ _ (subst (λ (h : Heard). Fits h (length (s .args .pcm .now))) (c .before .before .heard .given .1) (s .pre .0))))
     (λ c κs. search needs)
-    (λ c. ?)
+    (λ c. let a = c .before .before .before .before .before .before .before .args in subst⁻¹ (λ (h : Heard). Printed h (a .readings) (a .readings)) (c .before .before .before .before .heard .given .1) refl)
     (λ c. search needs)
     (λ c. search needs)
     (λ c κs. search needs)
-    (λ c. ?)
+    (λ c. let a = c .before .before .before .before .before .before .args in subst⁻¹ (λ (h : Heard). Printed h (a .readings) (a .readings + 1)) (c .before .before .before .heard2 .given .1) refl)
     (λ c. search needs)
-    (λ c. ?)
+    (λ c. let a = c .before .before .before .args in subst⁻¹ (λ (h : Heard). Printed h (a .readings) (a .readings)) (c .enum-told .given .1) refl)
     (λ c. search needs)
     (λ c. search needs)
     (λ c. search needs))
