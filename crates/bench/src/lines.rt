@@ -1,5 +1,7 @@
 // The lines: numbers in decimal, register and value in two capital hex digits. Each answers whether it went out.
+ghost use mathlib.Core.Path.{_≡_};
 ghost use Prim.Native.Nat.{_<_};
+ghost use Rattle.bench.specs.Hex.{capital};
 use libc::STDERR_FILENO;
 use libc::STDOUT_FILENO;
 
@@ -17,6 +19,7 @@ fn number(n: u64) -> bool {
 
 fn digit(n: u8) -> u8
     requires { ⌜ n < 16 ⌝ }
+    ensures { λ r. ⌜ r ≡ capital n ⌝ }
 {
     if n < 10 { b'0' + n } else { b'A' - 10 + n }
 }
