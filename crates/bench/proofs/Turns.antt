@@ -1,5 +1,4 @@
 -- What a part's contract says of a turn: its ticks lie in the buffer, and less of the log is left.
-use mathlib.Core.Bool.{Bool, true, false}
 use mathlib.Core.List.{List}
 use mathlib.Core.Path.{_≡_, subst⁻¹}
 use Prim.Native.Nat.{ℕ, _/_, _*_, _≤_, _<_}
@@ -11,7 +10,6 @@ use Rattle.numbers.proofs.Choice.{chosen, least-both}
 use Rattle.dsp.specs.Fit.{fit}
 use Rattle.dsp.specs.declared.registers.Dsp.{Dsp}
 use Rattle.log.specs.Log.{readAt}
-use Rattle.log.specs.declared.Record.{Record}
 use Rattle.log.specs.declared.Record.the-variants.{Write, Ticks, Reading}
 use Rattle.log.specs.declared.Next.{Next}
 use Rattle.log.specs.declared.Next.the-variants.{On, Off}
@@ -50,13 +48,13 @@ module _ (d : Dsp) (at left : ℕ) (ram log pcm : List ℕ) where
   fits p e = subst⁻¹ Lies e lies
 
 -- a turn with which the run goes on leaves less, within the log, and no more readings than bytes lie behind it
-pub record Onward (size at left q at′ left′ p : ℕ) : Type 0 where
+pub record Onward (size at left at′ left′ p : ℕ) : Type 0 where
   pub less : weight size at′ left′ < weight size at left
   pub within : at′ ≤ size
   pub few : p ≤ at′
 
 pub onward : (h : Heard) {size at left q k at′ left′ p : ℕ} → Moved at left size h k at′ left′ → k ≡ 0 → Printed h q p → left′ < 0x10000 → at ≤ size → q ≤ at
-    → Onward size at left q at′ left′ p
+    → Onward size at left at′ left′ p
 onward Nothing m z e l w f = let v = m z in let a = v .0 in let b = v .1 in record { less = omega (arith, a, b, l); within = b; few = omega (arith, a, e, f) }
 onward (Sound n) m z e l w f = let a = m .0 in let b = m .1 in record { less = omega (arith, a, b); within = omega (arith, a, w); few = omega (arith, a, e, f) }
 onward (Read r x) m z e l w f = let a = m .0 in let b = m .1 in record { less = omega (arith, a, b, l); within = b; few = omega (arith, a, e, f) }

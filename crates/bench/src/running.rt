@@ -8,7 +8,7 @@ use sitting::Heard;
 use sitting::Stage;
 use sitting::run_part;
 
-// How a run ended. `measure` has taken the log, so that no part is refused; one that were would say so.
+// How a run ended. `measure` has taken the log, so no part is refused; were one, its number is what is said.
 pub enum Ran {
     Whole,
     Refused(u8),

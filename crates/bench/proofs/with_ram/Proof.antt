@@ -1,9 +1,8 @@
 -- The log lies within the buffer.
 use borrow.Author.Needs.{needs}
-use mathlib.Core.Path.{_≡_, sym, subst}
-use Prim.Native.Nat.{_≤_}
+use mathlib.Core.Path.{sym, subst}
 use native.Mathlib.Omega.{arith}
-use lib.ListN.{length, take, length-append}
+use lib.ListN.{length-append}
 use lib.Seq.{length-take-le}
 use Rattle.bench.specs.Input.{Within}
 use Rattle.bench.proofs.with_ram.Statement.{statement}

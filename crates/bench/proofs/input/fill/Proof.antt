@@ -24,6 +24,7 @@ grown c = let l = c .before .before .before .before .before .before .before .bef
     let t = length-take-le (length (l .buf) - l .done) (drop (l .done) (l .buf)) (omega (arith, d)) in
     omega (arith, w, t, l .inv .1)
 
+-- the buffer keeps its length
 same : (c : tie.Else1 Inv-loop μ-loop) → length (putMid (c .before .before .before .before .before .before .before .before .before .loop .done) (length (c .before .before .before .before .before .before .before .before .before .loop .buf) - c .before .before .before .before .before .before .before .before .before .loop .done) (c .before .before .before .before .before .before .before .before .before .loop .buf) (c .before .before .before .before .before .before .some .last .1 .0)) ≡ length (c .before .before .before .before .before .before .before .before .before .loop .buf)
 same c = let l = c .before .before .before .before .before .before .before .before .before .loop in same-len-mid {X = ℕ} (l .done) (length (l .buf) - l .done) (l .buf) (c .before .before .before .before .before .before .some .last .1 .0) (c .before .before .before .before .before .before .some .kept .1 .0)
 
@@ -44,8 +45,8 @@ fill-spec =
     (λ c. search needs)
     (λ c. search needs)
     (λ c. search needs)
-    (λ c. let g = grown c in let l = c .before .before .before .before .before .before .before .before .before .loop in omega (arith, g))
-    (λ c. let g = grown c in let e = same c in omega (arith, g, e))
-    (λ c. let g = grown c in let e = same c in (e ∙ c .before .before .before .before .before .before .before .before .before .loop .inv .0, omega (arith, g, e)))
+    (λ c. omega (arith, grown c))
+    (λ c. omega (arith, grown c, same c))
+    (λ c. (same c ∙ c .before .before .before .before .before .before .before .before .before .loop .inv .0, omega (arith, grown c, same c)))
     (λ c. search needs)
     (λ c. search needs))

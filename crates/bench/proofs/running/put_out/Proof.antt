@@ -1,6 +1,6 @@
 -- By what the part put out.
 use borrow.Author.Needs.{needs}
-use mathlib.Core.Path.{_≡_, refl, sym, subst, subst⁻¹}
+use mathlib.Core.Path.{refl, sym, subst, subst⁻¹}
 use Prim.Native.Nat.{_+_}
 use lib.ListN.{length}
 use lib.Seq.{length-take-le}

@@ -16,9 +16,10 @@ Inv-loop ram₀ log out pcm₀ stage₀ readings₀ ram pcm stage readings =
 abbrev μ-loop : tie.MeasureT-loop
 μ-loop ram₀ log out pcm₀ stage₀ readings₀ ram pcm stage readings = weight (length log) (stage .at) (stage .left)
 
+-- the turn, where the run goes on
 turned : (c : tie.After-known-told Inv-loop μ-loop)
     → let p = c .before .before .before .before .before .before .before .before .before .before .before .run-part in let l = c .before .before .before .before .before .before .before .before .before .before .before .before .before .before .loop in
-    Onward (length (c .before .before .before .before .before .before .before .before .before .before .before .before .before .before .before .before .before .before .before .before .args .log .now)) (l .stage .at) (l .stage .left) (l .readings) (p .result .stage .at) (p .result .stage .left) (c .before .printed .given .0 .0)
+    Onward (length (c .before .before .before .before .before .before .before .before .before .before .before .before .before .before .before .before .before .before .before .before .args .log .now)) (l .stage .at) (l .stage .left) (p .result .stage .at) (p .result .stage .left) (c .before .printed .given .0 .0)
 turned c = let p = c .before .before .before .before .before .before .before .before .before .before .before .run-part in let l = c .before .before .before .before .before .before .before .before .before .before .before .before .before .before .loop in
     onward (p .result .heard) (p .ensures .1) (c .before .before .before .before .before .before .if1 .left) (subst (Done (p .result .heard) (l .readings)) (c .before .printed .given .1) (c .before .before .before .put-out .ensures)) (search needs) (l .inv .2) (l .inv .3)
 
@@ -42,7 +43,7 @@ run-spec =
     let a = l .inv .2 in let q = l .inv .3 in let n = c .before .before .before .before .before .before .before .before .before .before .before .before .before .before .before .before .pre in
     (subst (Fits (p .result .heard)) (sym (p .kept .1 .1 .1 .0)) f, omega (arith, a, q, n)))
     (λ c. search needs)
-    (λ c. let o = turned c in o .less)
+    (λ c. turned c .less)
     (λ c. let o = turned c in let k = c .before .before .before .before .before .before .before .before .before .before .before .run-part .kept in let i = c .before .before .before .before .before .before .before .before .before .before .before .before .before .before .loop .inv in
     (k .1 .0 ∙ i .0, k .1 .1 .1 .0 ∙ i .1, o .within, o .few))
     (λ c. search needs)
