@@ -2,8 +2,10 @@
 // the given Rust: "longer logs a program runs and compares" (document 01). tools/oracle makes the cases.
 mod cases;
 mod digest;
+mod left;
 mod lines;
-mod run;
+mod ticks;
+mod whole;
 
 fn main() {
     let fd = os::open_read(b"cases");
