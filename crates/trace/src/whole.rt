@@ -17,7 +17,7 @@ pub struct Whole {
     pub left: Left,
 }
 
-// Room for the longest logs: 32,000 ticks, of 4 bytes of PCM and 36 of sheet, or 20,000 readings, of 3 bytes of log.
+// Room for any log: 32,000 ticks with 4 bytes of PCM and 36 of sheet each, 20,000 readings with 3 bytes of the log each.
 pub fn run_whole(log: &[u8], ram: &mut [u8]) -> Whole {
     let mut pcm = [0; 128000];
     let mut sheet = [0; 1152000];
@@ -42,7 +42,7 @@ fn least(a: usize, b: usize) -> usize
     if a < b { a } else { b }
 }
 
-// Lends of each what the log needs. Were there less, `run_new` would refuse by 10.
+// Lends what the log needs. Were there less, `run_new` would refuse by 10.
 fn run_cut(
     log: &[u8],
     ram: &mut [u8],
