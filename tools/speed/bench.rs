@@ -1,4 +1,4 @@
-//! The given Rust's tick: the record of `workload`, so many ticks, the time of each run in nanoseconds.
+//! The given Rust over a log: writes, and ticks that are `step` and `render_audio_single`; the time of each run in nanoseconds.
 
 use apu::dsp::Dsp;
 use std::time::Instant;
@@ -22,39 +22,40 @@ fn fill(ram: &mut [u8; 65536]) {
     }
 }
 
-/// All eight voices, pitch modulation on three, echo on all and writing.
-fn workload() -> Dsp {
+/// Runs a well-formed log from `new`: writes and ticks, four bytes each, then the end.
+fn run(log: &[u8], ram: &mut [u8; 65536], pcm: &mut [u8]) {
     let mut dsp = Dsp::new();
-    for (register, value) in [
-        (0x6C, 0), (0x0C, 0x7F), (0x1C, 0x7F), (0x2C, 0x40), (0x3C, 0x40),
-        (0x6D, 0x80), (0x7D, 4), (0x0D, 0x40), (0x4D, 0xFF), (0x2D, 0x54),
-    ] {
-        dsp.write_reg(register, value);
-    }
-    for v in 0..8u8 {
-        for (offset, value) in [(15, 0x10), (0, 0x30), (1, 0x30), (2, 0), (3, 0x10 + v), (5, 0x8F), (6, 0xE0)] {
-            dsp.write_reg(v * 16 + offset, value);
+    let mut frames = pcm.chunks_exact_mut(4);
+    for record in log.chunks_exact(4) {
+        if record[0] == b'R' {
+            dsp.write_reg(record[2], record[3]);
+            continue;
         }
-    }
-    dsp.write_reg(0x4C, 0xFF);
-    dsp
-}
-
-fn main() {
-    let words: Vec<usize> = std::env::args().skip(1).map(|w| w.parse().unwrap()).collect();
-    let (ticks, runs) = (words[0], words[1]);
-    let mut ram = Box::new([0u8; 65536]);
-    let mut pcm = vec![0u8; ticks * 4];
-    for _ in 0..runs {
-        fill(&mut ram);
-        let begun = Instant::now();
-        let mut dsp = workload();
-        for frame in pcm.chunks_exact_mut(4) {
-            dsp.step(&mut ram);
+        for _ in 0..u16::from_le_bytes([record[2], record[3]]) {
+            dsp.step(ram);
             let (left, right) = dsp.render_audio_single();
+            let frame = frames.next().unwrap();
             frame[..2].copy_from_slice(&left.to_le_bytes());
             frame[2..].copy_from_slice(&right.to_le_bytes());
         }
+    }
+}
+
+fn ticks_of(log: &[u8]) -> usize {
+    let ticks = log.chunks_exact(4).filter(|r| r[0] == b'T');
+    ticks.map(|r| usize::from(u16::from_le_bytes([r[2], r[3]]))).sum()
+}
+
+fn main() {
+    let words: Vec<String> = std::env::args().skip(1).collect();
+    let log = std::fs::read(&words[0]).unwrap();
+    let runs: usize = words[1].parse().unwrap();
+    let mut ram = Box::new([0u8; 65536]);
+    let mut pcm = vec![0u8; ticks_of(&log) * 4];
+    for _ in 0..runs {
+        fill(&mut ram);
+        let begun = Instant::now();
+        run(&log, &mut ram, &mut pcm);
         println!("{}", begun.elapsed().as_nanos());
     }
     digest("RAM", &ram[..]);

@@ -1,12 +1,12 @@
-/* Calls the compiled Rattle program's run: so many ticks of the same record over the same RAM as bench.rs. */
+/* Calls the compiled Rattle program's run, which is sitting's run_new: the log of bench.rs over the same RAM. */
 #include <stdint.h>
 #include <stdio.h>
 #include <stdlib.h>
 #include <time.h>
 
 typedef struct { uint8_t *p; uint64_t n; } slice;
-int64_t rt_run(slice *ram, uint64_t ticks, slice *pcm, slice *sheet);
-static uint8_t ram[65536], pcm[32000 * 4], sheet[32000 * 36];
+uint8_t rt_run(slice *ram, slice *log, slice *pcm, slice *sheet, slice *readings);
+static uint8_t ram[65536], logged[65536], pcm[32000 * 4], sheet[32000 * 36], readings[20000];
 
 static void fill(void) {
     uint32_t x = 12345;
@@ -33,19 +33,30 @@ static void digest(const char *name, const uint8_t *bytes, uint64_t n) {
     printf("%s %016llX\n", name, (unsigned long long)d);
 }
 
+/* The ticks of a log that is well formed, as all logs here are. */
+static uint64_t ticks_of(const uint8_t *log, uint64_t n) {
+    uint64_t ticks = 0;
+    for (uint64_t at = 0; at + 4 <= n; at += 4)
+        if (log[at] == 'T') ticks += log[at + 2] + 256 * log[at + 3];
+    return ticks;
+}
+
 int main(int count, char **words) {
     if (count != 3) return 2;
-    uint64_t ticks = atoi(words[1]);
-    if (ticks > 32000) return 2;
+    FILE *file = fopen(words[1], "rb");
+    if (!file) return 2;
+    uint64_t size = fread(logged, 1, sizeof logged, file), ticks = ticks_of(logged, size);
+    uint8_t refusal = 0;
     for (int k = atoi(words[2]); k > 0; k--) {
         fill();
-        slice lent = {ram, 65536}, samples = {pcm, ticks * 4}, rows = {sheet, ticks * 36};
+        slice lent = {ram, 65536}, log = {logged, size}, samples = {pcm, ticks * 4}, rows = {sheet, ticks * 36}, told = {readings, 0};
         struct timespec a, b;
         clock_gettime(CLOCK_MONOTONIC, &a);
-        rt_run(&lent, ticks, &samples, &rows);
+        refusal |= rt_run(&lent, &log, &samples, &rows, &told);
         clock_gettime(CLOCK_MONOTONIC, &b);
         printf("%lld\n", (b.tv_sec - a.tv_sec) * 1000000000LL + (b.tv_nsec - a.tv_nsec));
     }
     digest("RAM", ram, 65536);
     digest("PCM", pcm, ticks * 4);
+    return refusal;
 }

@@ -9,13 +9,12 @@ use lib.Seq.{take-append-le, drop-append-le}
 use borrow.Author.Tests.{eq-eqb}
 use Rattle.dsp.specs.Machine.{noVoice, Parts}
 use Rattle.dsp.specs.Fit.{Fit}
-use Rattle.dsp.specs.Registers.{turns, writeAt, Written, writeOf}
+use Rattle.dsp.specs.Registers.{writeAt, writeOf}
 use Rattle.dsp.specs.Mix.{bit}
 use Rattle.dsp.specs.Sheet.{laneAt}
 use Rattle.dsp.specs.Echo.{echoLane}
 use Rattle.dsp.specs.Lane.{turned}
-use Rattle.dsp.specs.Tick.{Round, landing, turn, voicesTick, globTick, sharedOf, startOf, mixed, tickOf, Bench, benchOf, onward, benchTick, ticksOf, Drove, drove, driveOf}
-use Rattle.dsp.specs.declared.lane.Shared.{Shared}
+use Rattle.dsp.specs.Tick.{Round, landing, turn, voicesTick, globTick, sharedOf, startOf, mixed, tickOf, Bench, benchOf, onward, benchTick, ticksOf, drove, driveOf}
 use Rattle.dsp.specs.declared.registers.Dsp.{Dsp}
 use Rattle.dsp.specs.declared.tick.Work.{Work}
 use Rattle.dsp.proofs.Turns.{turns-same}

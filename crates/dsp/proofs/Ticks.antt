@@ -1,11 +1,11 @@
 -- A tick of the machine: what it keeps, and how its parts make the definition.
 use mathlib.Core.Bool.{Bool}
-use mathlib.Core.List.{List, [], _++_}
+use mathlib.Core.List.{List, []}
 use mathlib.Core.Path.{_≡_, refl, _∙_}
-use Prim.Native.Nat.{ℕ, zero, suc, _+_, _*_, _/_, _%_, _≤_, _<_}
+use Prim.Native.Nat.{ℕ, zero, suc, _/_, _%_, _≤_, _<_}
 use native.Mathlib.Omega.{arith}
 use lib.IntN.{ℤ}
-use lib.ListN.{getD, set, take, drop, length, length-set}
+use lib.ListN.{getD, length, length-set}
 use Rattle.numbers.specs.Choice.{if_then_else_, _<?_}
 use Rattle.numbers.proofs.Choice.{chosen}
 use Rattle.dsp.specs.Machine.{noVoice, Parts, apart, together}
@@ -13,9 +13,9 @@ use Rattle.dsp.specs.Fit.{FitVoice, FitGlob, Fit}
 use Rattle.dsp.specs.Registers.{turns, resets, silenceVoice, silenceAll, writeParts, writeAt}
 use Rattle.dsp.specs.Mix.{bit}
 use Rattle.dsp.specs.Sheet.{laneAt}
-use Rattle.dsp.specs.Echo.{Echo, EchoLane, echoTick, echoWritten, echoStored, echoFrom, echoLane, echoWorked, echoShown}
+use Rattle.dsp.specs.Echo.{EchoLane, echoTick, echoWritten, echoStored, echoFrom, echoLane}
 use Rattle.dsp.specs.Lane.{Cell, ownCell, shownCell, putBytes, turned}
-use Rattle.dsp.specs.Tick.{Round, turn, voicesTick, globTick, sharedFrom, sharedOf, Ticked, mixed, tickOf, Bench, onward, benchTick, benchWrite, ticksOf, startOf}
+use Rattle.dsp.specs.Tick.{Round, turn, voicesTick, globTick, sharedFrom, sharedOf, mixed, tickOf, Bench, onward, benchTick, benchWrite, ticksOf, startOf}
 use Rattle.dsp.specs.declared.voice.Voice.{Voice}
 use Rattle.dsp.specs.declared.lane.Shared.{Shared}
 use Rattle.dsp.specs.declared.registers.Dsp.{Dsp}

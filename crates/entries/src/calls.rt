@@ -10,7 +10,7 @@ use dsp::Dsp;
 const RAM_SIZE: usize = 65536;
 
 // What RAM holds before a tick, in every byte.
-const FILL: u8 = 0x55;
+pub const FILL: u8 = 0x55;
 
 // A fit record on which every entry has something to do: with FLG bit 5 clear a tick writes RAM, and with the echo's
 // output there is something to hear.
@@ -25,7 +25,7 @@ pub fn ready() -> Dsp {
     d
 }
 
-fn untouched(ram: &[u8]) -> bool {
+pub fn untouched(ram: &[u8]) -> bool {
     let mut same = true;
     let mut i: usize = 0;
     while i < ram.len() {

@@ -2,15 +2,19 @@
 // that must come out follow from document 01, group by group:
 // - lengths: "1: RAM slice isn't 65,536 bytes", before "2: a given record is unfit";
 // - limits: "A fit record: ..", each clause at its limit and one past it;
-// - both: "A refusal answers its number, the record given .. and zeros elsewhere; RAM .. keep their bytes";
-// - bytes, turned: "Where a field and its register byte differ in a given record, a poll's KOFF, a loop jump's DIR and
-//   SRCN and `read_reg` use the bytes, all else the fields".
+// - runs: "Order: 1, 2, 3, then 4 to 9 at the first place in the log, .. 10", in `run` and `run_new`;
+// - all three: "A refusal answers its number, the record given .. and zeros elsewhere; RAM, sheet and outputs keep
+//   their bytes";
+// - bytes, turned, readings: "Where a field and its register byte differ in a given record, a poll's KOFF, a loop
+//   jump's DIR and SRCN and `read_reg` use the bytes, all else the fields".
 mod bytes;
 mod calls;
 mod lengths;
 mod limits;
 mod lines;
 mod parts;
+mod readings;
+mod runs;
 mod same;
 mod turned;
 
@@ -19,4 +23,6 @@ fn main() {
     limits::all();
     bytes::all();
     turned::all();
+    runs::all();
+    readings::all();
 }

@@ -1,6 +1,6 @@
 -- What holds of both holds of the chosen one.
 use mathlib.Core.Bool.{Bool, true, false}
-use mathlib.Core.Path.{_≡_}
+use mathlib.Core.Path.{_≡_, refl}
 use Prim.Native.Nat.{ℕ, _+_, _≤_, _<_}
 use Rattle.numbers.specs.Choice.{if_then_else_}
 use Rattle.numbers.specs.Unsigned.{least}
@@ -8,6 +8,11 @@ use native.Mathlib.Nat.{le-refl}
 use native.Mathlib.Omega.{arith}
 use native.Mathlib.Decide.{decLe}
 use borrow.Author.Tests.{le-leb, lt-leb}
+
+-- by the test that is made
+pub tested : {A : Type 0} (P : A → Type 0) (b : Bool) {x y : A} → (b ≡ true → P x) → (b ≡ false → P y) → P (if b then x else y)
+tested P true f g = f refl
+tested P false f g = g refl
 
 pub chosen : {A : Type 0} (P : A → Type 0) (b : Bool) {x y : A} → P x → P y → P (if b then x else y)
 chosen P true p q = p

@@ -2,3 +2,4 @@ pub mod Batch
 pub mod Plays
 pub mod Runs
 pub mod Parting
+pub mod Together

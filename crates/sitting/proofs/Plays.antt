@@ -5,7 +5,7 @@ use mathlib.Core.Path.{_≡_, refl, sym, ap, subst, _∙_}
 use Prim.Native.Nat.{ℕ, _+_, _*_, _≤_, _<_}
 use native.Mathlib.Omega.{arith}
 use native.Mathlib.Nat.{add-zero}
-use lib.ListN.{length, getD, take, drop, drop-of-length-le}
+use lib.ListN.{length, getD, take, drop-of-length-le}
 use lib.Seq.{take-all}
 use Rattle.dsp.specs.Fit.{Fit}
 use Rattle.dsp.specs.Machine.{apart}
@@ -21,7 +21,7 @@ use Rattle.log.specs.declared.Record.the-variants.{Write, Ticks, Reading}
 use Rattle.log.specs.declared.Next.{Next}
 use Rattle.log.specs.declared.Next.the-variants.{On, Off}
 use Rattle.log.proofs.Turn.{Here, Turned, turned, ended, most, good}
-use Rattle.sitting.specs.Play.{Run, play, playAll, starting}
+use Rattle.sitting.specs.Play.{Run, play, playAll}
 use Rattle.sitting.specs.Stand.{benchNow, standing, Ready}
 
 -- ---- one record

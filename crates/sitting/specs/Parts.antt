@@ -1,8 +1,8 @@
 -- A run in parts: each works one record of the log, or some ticks of a TK record.
-use mathlib.Core.List.{List, [], _++_}
+use mathlib.Core.List.{List, [], _∷_, _++_}
 use mathlib.Core.Path.{_≡_}
-use Prim.Native.Nat.{ℕ, _-_, _*_, _/_, _≤_, _<_}
-use lib.ListN.{length, getD, drop}
+use Prim.Native.Nat.{ℕ, _+_, _-_, _*_, _/_, _≤_, _<_}
+use lib.ListN.{length, getD, take, drop}
 use Rattle.numbers.specs.Choice.{if_then_else_, _<?_, _=?_}
 use Rattle.numbers.specs.Unsigned.{least}
 use Rattle.dsp.specs.Machine.{together}
@@ -10,11 +10,13 @@ use Rattle.dsp.specs.Fit.{fit}
 use Rattle.dsp.specs.Registers.{writeAt}
 use Rattle.dsp.specs.Tick.{everything, Bench, benchOf, ticksOf}
 use Rattle.dsp.specs.declared.registers.Dsp.{Dsp}
-use Rattle.log.specs.Log.{readAt}
+use Rattle.log.specs.Log.{readAt, decodeFrom}
 use Rattle.log.specs.declared.Record.{Record}
 use Rattle.log.specs.declared.Record.the-variants.{Write, Ticks, Reading}
 use Rattle.log.specs.declared.Next.{Next}
 use Rattle.log.specs.declared.Next.the-variants.{On, Off}
+use Rattle.sitting.specs.Play.{Run, playAll, starting}
+use Rattle.sitting.specs.Run.{runOf}
 use Rattle.sitting.specs.declared.parts.Heard.{Heard}
 use Rattle.sitting.specs.declared.parts.Heard.the-variants.{Nothing, Sound, Reading as Read, End}
 use Rattle.sitting.specs.declared.parts.Part.{Part}
@@ -96,3 +98,56 @@ Moved at left size End k at′ left′ = Unit {0}
 
 abbrev pub Goes : ℕ → ℕ → ℕ → Told → Type 0
 Goes at left size t = Moved at left size (t .heard) (t .refusal) (t .at) (t .left)
+
+-- ---- what parts give together
+
+-- what is still to be put out from a stage on: samples, readings, and the record and RAM at the end
+pub record Rest : Type 0 where
+  pub pcm : List ℕ
+  pub readings : List ℕ
+  pub dsp : Dsp
+  pub ram : List ℕ
+
+abbrev pub restIn : Run → Rest
+restIn x = record { pcm = x .bench .pcm; readings = x .readings; dsp = together (x .bench .parts); ram = x .bench .ram }
+
+-- the log's records from a place on
+abbrev pub recordsFrom : List ℕ → ℕ → List Record
+recordsFrom log at = decodeFrom (length log + 1) log at .records
+
+-- the ticks that are left, then the records from the place on, played
+unfoldable pub restOf : Dsp → ℕ → ℕ → List ℕ → List ℕ → Rest
+restOf d at left ram log = restIn (playAll everything (Ticks left ∷ recordsFrom log at) (starting d ram []))
+
+-- with what a part puts out in front
+abbrev pub ahead : Heard → List ℕ → Rest → Rest
+ahead Nothing pcm r = r
+ahead (Sound n) pcm r = record { pcm = take (n * 4) pcm ++ r .pcm; readings = r .readings; dsp = r .dsp; ram = r .ram }
+ahead (Read g x) pcm r = record { pcm = r .pcm; readings = x ∷ r .readings; dsp = r .dsp; ram = r .ram }
+ahead End pcm r = r
+
+-- after a part that is not refused, what is left is what was left before, less what the part put out
+abbrev pub PartAfterPart : Type 0
+PartAfterPart =
+    (d : Dsp) (at left : ℕ) (ram log pcm : List ℕ) → partOf d at left ram log pcm .told .refusal ≡ 0
+    → restOf d at left ram log
+    ≡ ahead (partOf d at left ram log pcm .told .heard) (partOf d at left ram log pcm .pcm)
+    (restOf (partOf d at left ram log pcm .told .dsp) (partOf d at left ram log pcm .told .at) (partOf d at left ram log pcm .told .left) (partOf d at left ram log pcm .ram) log)
+
+-- before the first part all of the run is left
+abbrev pub PartsBegin : Type 0
+PartsBegin =
+    (d : Dsp) (ram log pcm sheet readings : List ℕ) → runOf d ram log pcm sheet readings .refusal ≡ 0
+    → _≡_ {A = Rest} (restOf d 0 0 ram log)
+    (record {
+      pcm = runOf d ram log pcm sheet readings .pcm;
+      readings = runOf d ram log pcm sheet readings .readings;
+      dsp = runOf d ram log pcm sheet readings .dsp;
+      ram = runOf d ram log pcm sheet readings .ram;
+    })
+
+-- and at the end nothing is, but the record and RAM as they stand
+abbrev pub PartsEnd : Type 0
+PartsEnd =
+    (d : Dsp) (at left : ℕ) (ram log pcm : List ℕ) → partOf d at left ram log pcm .told .heard ≡ End
+    → restOf d at left ram log ≡ record { pcm = []; readings = []; dsp = d; ram = ram }

@@ -1,7 +1,7 @@
 -- Where a run stands in the slices that it is lent: the first t samples and rows and the first q readings are its own, and the
 -- sheet behind them is as it was found.
 use mathlib.Core.List.{List}
-use Prim.Native.Nat.{ℕ, _*_, _≤_}
+use Prim.Native.Nat.{ℕ, _*_}
 use mathlib.Core.Path.{_≡_}
 use lib.ListN.{length, take, drop}
 use Rattle.dsp.specs.Machine.{apart}

@@ -1,10 +1,10 @@
 // The file of cases: the number of a RAM image, the log's length (16 bits, low byte first), the log; and so on.
-ghost use Prim.Native.Nat.{_≤_, _<_};
-ghost use lib.ListN.{length};
+ghost use Prim.Native.Nat.{_<_};
+ghost use Rattle.io.specs.Counts.{Counts};
 use crate::lines::numbered;
 use crate::lines::say;
-use crate::run::run_log;
-use log::measure;
+use crate::ticks::run_ticks;
+use crate::whole::run_whole;
 use log::word;
 
 // A file may have no end, as a device has none: no more cases than these are read.
@@ -58,40 +58,31 @@ fn stops() -> bool {
     false
 }
 
-// RAM is checked before the log, and the whole log before the first tick.
+// Whole by `run_new`; then, where that refuses nothing, tick by tick on the image as it was.
 fn case(image: u8, log: &[u8])
-    requires { ⌜ (image < 10) × (length (now log) ≤ 0x10000) ⌝ }
+    requires { ⌜ image < 10 ⌝ }
 {
-    let mut ram = io::large_buffer();
-    if load(image, &mut ram) {
-        let m = measure(log);
-        if m.refusal == 0 {
-            let r = run_log(log, &mut ram);
-            r.tell(&ram);
-        } else {
-            numbered(b"REFUSED ", m.refusal as u64);
-        }
-    } else {
-        say(b"REFUSED 1\n");
+    let mut ram = [0u8; 65537];
+    let n = load(image, &mut ram);
+    let mut again = ram;
+    let w = run_whole(log, &mut ram[..n]);
+    if w.refusal == 0 {
+        let left = w.left;
+        run_ticks(log, &mut again[..n], left);
     }
 }
 
-// Whether the image is there and as long as RAM.
-fn load(image: u8, ram: &mut [u8]) -> bool
+// How many bytes the image has, up to the one more than RAM has that shows it to be too long. A missing image has none.
+fn load(image: u8, ram: &mut [u8]) -> usize
     requires { ⌜ image < 10 ⌝ }
+    ensures { λ r. ⌜ Counts r (now (ram .exit)) ⌝ }
 {
     let name = [b'r', b'a', b'm', b'0' + image];
     let fd = os::open_read(&name);
     if fd < 0 {
-        return false;
+        return 0;
     }
     let got = io::read_full(fd, ram);
-    let whole = (got == ram.len()) & ended(fd);
     libc::close(fd);
-    whole
-}
-
-fn ended(fd: i32) -> bool {
-    let mut more = [0u8; 1];
-    libc::read(fd, &mut more) == 0
+    got
 }

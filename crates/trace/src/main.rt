@@ -1,9 +1,12 @@
-// Runs the chip on a file of cases and prints what each gives, with a digest over every tick, as the oracle does from
-// the given Rust: "longer logs a program runs and compares" (document 01). tools/oracle makes the cases.
+// Runs a file of cases, each whole and then tick by tick, and prints what it gives, with a digest over every tick, as
+// the oracle does from the given Rust: "longer logs a program runs and compares" (document 01). tools/oracle makes the
+// cases.
 mod cases;
 mod digest;
+mod left;
 mod lines;
-mod run;
+mod ticks;
+mod whole;
 
 fn main() {
     let fd = os::open_read(b"cases");

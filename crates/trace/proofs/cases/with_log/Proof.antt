@@ -10,9 +10,6 @@ use Rattle.trace.proofs.cases.with_log.Tie as tie
 array-share-prefix-log : tie.Need-array-share-prefix-log
 array-share-prefix-log c = rw length-append (omega arith)
 
-slice-aggregate-case : tie.Need-slice-aggregate-case
-slice-aggregate-case c = sym (length-take-le _ _ (array-share-prefix-log (c .before)))
-
 pub with-log-spec : {M : Type 1} → statement M
 with-log-spec =
     tie.close
@@ -26,6 +23,6 @@ with-log-spec =
     (λ c. search needs)
     (λ c κs. search needs)
     array-share-prefix-log
-    slice-aggregate-case
-    (λ c κs. (search needs, omega (arith, slice-aggregate-case c)))
+    (λ c. sym (length-take-le _ _ (array-share-prefix-log (c .before))))
+    (λ c κs. search needs)
     (λ c. search needs))

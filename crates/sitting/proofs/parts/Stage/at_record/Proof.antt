@@ -1,6 +1,6 @@
 -- By what stands there.
 use borrow.Author.Needs.{needs}
-use mathlib.Core.Path.{_≡_, sym, ap, subst, _∙_}
+use mathlib.Core.Path.{sym, ap, subst, _∙_}
 use lib.ListN.{length}
 use Rattle.log.specs.Log.{Moves}
 use Rattle.log.specs.declared.Next.{Next}

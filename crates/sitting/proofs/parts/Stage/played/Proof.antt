@@ -5,7 +5,6 @@ use Prim.Native.Nat.{ℕ, _%_}
 use native.Mathlib.Omega.{arith}
 use lib.ListN.{getD}
 use Rattle.dsp.specs.Registers.{Written}
-use Rattle.dsp.specs.declared.registers.Dsp.{Dsp}
 use Rattle.dsp.proofs.Batches.{written}
 use Rattle.log.specs.Log.{Known}
 use Rattle.sitting.specs.Parts.{telling, recordAt}

@@ -1,13 +1,13 @@
--- Each turn adds one tick at most. The measure is the ticks that are left.
+-- The measure is the ticks that are left.
 use borrow.Author.Needs.{needs}
 use mathlib.Core.Path.{_≡_}
-use Prim.Native.Nat.{_+_, _-_, _≤_}
+use Prim.Native.Nat.{_-_, _≤_}
 use lib.ListN.{length}
-use Rattle.trace.proofs.run.ticked.Statement.{statement}
-use Rattle.trace.proofs.run.ticked.Tie as tie
+use Rattle.trace.proofs.ticks.ticked.Statement.{statement}
+use Rattle.trace.proofs.ticks.ticked.Tie as tie
 
 abbrev Inv-loop : tie.InvT-loop
-Inv-loop ram₀ count r₀ i₀ ram r i = (length ram ≡ length ram₀) × (i ≤ count) × (r .ticks ≤ r₀ .ticks + i) × (r .readings ≡ r₀ .readings)
+Inv-loop ram₀ count r₀ i₀ ram r i = (length ram ≡ length ram₀) × (i ≤ count)
 
 abbrev μ-loop : tie.MeasureT-loop
 μ-loop ram₀ count r₀ i₀ ram r i = count - i

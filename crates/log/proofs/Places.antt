@@ -1,0 +1,66 @@
+-- Places of a log: a record ends past where it began; and the bound on the number of records is never met.
+use mathlib.Core.List.{List, _∷_}
+use mathlib.Core.Path.{_≡_, refl, ap, subst}
+use Prim.Native.Nat.{ℕ, zero, suc, _+_, _-_, _*_, _≤_, _<_}
+use native.Mathlib.Omega.{arith}
+use lib.ListN.{length}
+use borrow.Author.Tests.{ltb-false, leb-false, le-leb}
+use Rattle.numbers.specs.Choice.{_≤?_, _<?_, _=?_}
+use Rattle.numbers.proofs.Choice.{tested}
+use Rattle.log.specs.declared.Record.{Record}
+use Rattle.log.specs.declared.Next.{Next}
+use Rattle.log.specs.declared.Next.the-variants.{On, Off}
+use Rattle.log.specs.Log.{byteOf, writeAt, ticksAt, readingAt, byMark, readAt, Moves, Decoded, before, decodeFrom}
+
+module _ (log : List ℕ) (at : ℕ) where
+  abbrev Ok : Next → Type 0
+  Ok n = Moves at (length log) n
+
+  write-moves : (left : ℕ) → left ≡ length log - at → at ≤ length log → Ok (writeAt log at left)
+  unfolding writeAt
+  write-moves left e h =
+      tested Ok (left <? 4) (λ _. tt) (λ l. tested Ok (0x7F <? byteOf log (at + 2)) (λ _. tt) (λ k.
+      let a = ltb-false left 4 l in let b = ltb-false 0x7F (byteOf log (at + 2)) k in (omega arith, omega (arith, a, e, h), omega (arith, b))))
+
+  ticks-moves : (left : ℕ) → left ≡ length log - at → at ≤ length log → Ok (ticksAt log at left)
+  unfolding ticksAt
+  ticks-moves left e h =
+      tested Ok (left <? 4) (λ _. tt) (λ l. tested Ok (byteOf log (at + 2) + 0x100 * byteOf log (at + 3) =? 0) (λ _. tt) (λ k.
+      let a = ltb-false left 4 l in (omega arith, omega (arith, a, e, h), tt)))
+
+  reading-moves : (left : ℕ) → left ≡ length log - at → at ≤ length log → Ok (readingAt log at left)
+  unfolding readingAt
+  reading-moves left e h =
+      tested Ok (left <? 3) (λ _. tt) (λ l. tested Ok (0x7F <? byteOf log (at + 2)) (λ _. tt) (λ k.
+      let a = ltb-false left 3 l in let b = ltb-false 0x7F (byteOf log (at + 2)) k in (omega arith, omega (arith, a, e, h), omega (arith, b))))
+
+  mark-moves : (left mark : ℕ) → left ≡ length log - at → at ≤ length log → Ok (byMark log at left mark)
+  unfolding byMark
+  mark-moves left mark e h =
+      tested Ok (mark =? 0x5257) (λ _. write-moves left e h) (λ _. tested Ok (mark =? 0x544B) (λ _. ticks-moves left e h) (λ _.
+      tested Ok (mark =? 0x5141) (λ _. reading-moves left e h) (λ _. tested Ok (mark =? 0x4E44) (λ _. tested Ok (left =? 2) (λ _. tt) (λ _. tt)) (λ _. tt))))
+
+  pub moves : Ok (readAt log at)
+  unfolding readAt
+  moves =
+      tested Ok (length log ≤? at) (λ _. tt) (λ l. tested Ok (length log - at <? 2) (λ _. tt) (λ _.
+      let a = leb-false (length log) at l in mark-moves (length log - at) (byteOf log (at + 1) + 0x100 * byteOf log at) refl (omega (arith, a))))
+
+-- past the end nothing stands
+past-end : (log : List ℕ) (at : ℕ) → length log ≤ at → readAt log at ≡ Off 8
+unfolding readAt
+past-end log at h = rw (le-leb _ _ h)
+
+-- ---- the bound
+
+same-before : (n : Next) (f g : ℕ → Decoded) → ((r : Record) (behind : ℕ) → n ≡ On r behind → f behind ≡ g behind) → before f n ≡ before g n
+same-before (Off k) f g h = refl
+same-before (On r behind) f g h = let e = h r behind refl in λ i. record { records = r ∷ e i .records; stop = e i .stop }
+
+-- with room for the records that can be, one more changes nothing
+pub decode-more : (f : ℕ) (log : List ℕ) (at : ℕ) → length log < f + at → decodeFrom (suc f) log at ≡ decodeFrom f log at
+unfolding decodeFrom
+decode-more zero log at h = ap (before (decodeFrom 0 log)) (past-end log at (omega (arith, h)))
+decode-more (suc f) log at h =
+    same-before (readAt log at) (decodeFrom (suc f) log) (decodeFrom f log)
+    (λ r behind e. let m = subst (Moves at (length log)) e (moves log at) in decode-more f log behind (omega (arith, h, m .0)))
