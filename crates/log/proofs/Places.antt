@@ -3,11 +3,12 @@ use mathlib.Core.List.{List, _∷_}
 use mathlib.Core.Path.{_≡_, refl, ap, subst}
 use Prim.Native.Nat.{ℕ, zero, suc, _+_, _-_, _*_, _≤_, _<_}
 use native.Mathlib.Omega.{arith}
-use lib.ListN.{length}
+use lib.ListN.{length, getD}
 use borrow.Author.Tests.{ltb-false, leb-false, le-leb}
 use Rattle.numbers.specs.Choice.{_≤?_, _<?_, _=?_}
 use Rattle.numbers.proofs.Choice.{tested}
 use Rattle.log.specs.declared.Record.{Record}
+use Rattle.log.specs.declared.Record.the-variants.{Write, Ticks, Reading}
 use Rattle.log.specs.declared.Next.{Next}
 use Rattle.log.specs.declared.Next.the-variants.{On, Off}
 use Rattle.log.specs.Log.{byteOf, writeAt, ticksAt, readingAt, byMark, readAt, Moves, Decoded, before, decodeFrom}
@@ -45,6 +46,27 @@ module _ (log : List ℕ) (at : ℕ) where
   moves =
       tested Ok (length log ≤? at) (λ _. tt) (λ l. tested Ok (length log - at <? 2) (λ _. tt) (λ _.
       let a = leb-false (length log) at l in mark-moves (length log - at) (byteOf log (at + 1) + 0x100 * byteOf log at) refl (omega (arith, a))))
+
+-- a written value is a byte of the log
+abbrev pub ByteValue : Next → Type 0
+ByteValue (On (Write r v) behind) = v < 256
+ByteValue (On (Ticks k) behind) = Unit {0}
+ByteValue (On (Reading r) behind) = Unit {0}
+ByteValue (Off k) = Unit {0}
+
+pub byte-value : (log : List ℕ) (at : ℕ) → ((i : ℕ) → getD log i 0 < 256) → ByteValue (readAt log at)
+unfolding readAt byMark writeAt ticksAt readingAt
+byte-value log at h =
+    let left = length log - at in
+    let mark = byteOf log (at + 1) + 0x100 * byteOf log at in
+    tested ByteValue (length log ≤? at) (λ _. tt) (λ _. tested ByteValue (left <? 2) (λ _. tt) (λ _.
+    tested ByteValue (mark =? 0x5257)
+    (λ _. tested ByteValue (left <? 4) (λ _. tt) (λ _. tested ByteValue (0x7F <? byteOf log (at + 2)) (λ _. tt) (λ _. h (at + 3))))
+    (λ _. tested ByteValue (mark =? 0x544B)
+    (λ _. tested ByteValue (left <? 4) (λ _. tt) (λ _. tested ByteValue (byteOf log (at + 2) + 0x100 * byteOf log (at + 3) =? 0) (λ _. tt) (λ _. tt)))
+    (λ _. tested ByteValue (mark =? 0x5141)
+    (λ _. tested ByteValue (left <? 3) (λ _. tt) (λ _. tested ByteValue (0x7F <? byteOf log (at + 2)) (λ _. tt) (λ _. tt)))
+    (λ _. tested ByteValue (mark =? 0x4E44) (λ _. tested ByteValue (left =? 2) (λ _. tt) (λ _. tt)) (λ _. tt))))))
 
 -- past the end nothing stands
 past-end : (log : List ℕ) (at : ℕ) → length log ≤ at → readAt log at ≡ Off 8

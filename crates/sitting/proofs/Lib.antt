@@ -3,3 +3,4 @@ pub mod Plays
 pub mod Runs
 pub mod Parting
 pub mod Together
+pub mod Unrefused
