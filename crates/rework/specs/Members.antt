@@ -1,0 +1,59 @@
+-- The voices that a rework works, and whether echo writing is off at every tick (document 01, "Rework").
+use mathlib.Core.Bool.{Bool, true, _&&_, _||_}
+use mathlib.Core.List.{List, [], _∷_}
+use Prim.Native.Nat.{ℕ, zero, suc, _+_, _*_, _/_}
+use Rattle.numbers.specs.Choice.{if_then_else_, _=?_}
+use Rattle.dsp.specs.Mix.{bit}
+use Rattle.dsp.specs.Registers.{at, turns}
+use Rattle.dsp.specs.Lane.{withBit}
+use Rattle.dsp.specs.declared.registers.Dsp.{Dsp}
+use Rattle.log.specs.declared.Record.{Record}
+use Rattle.log.specs.declared.Record.the-variants.{Write, Ticks, Reading}
+use Rattle.rework.specs.declared.modes.Modes.{Modes}
+
+-- ---- the two fields that decide, as the writes leave them; a tick changes neither
+
+abbrev pub modesOf : Dsp → Modes
+modesOf d = record { flg = d .flg; pmon = d .pmon }
+
+abbrev pub modesAfter : ℕ → ℕ → Modes → Modes
+modesAfter r x m = record { flg = at r 0x6C x (m .flg); pmon = at r 0x2D (x / 2 * 2) (m .pmon) }
+
+-- ---- FLG bit 5 is set at every tick
+
+unfoldable pub quiet : List Record → Modes → Bool
+quiet [] m = true
+quiet (Write r x ∷ rs) m = quiet rs (modesAfter r x m)
+quiet (Ticks n ∷ rs) m = ((n =? 0) || bit (m .flg) 5) && quiet rs m
+quiet (Reading r ∷ rs) m = quiet rs m
+
+-- ---- "the set A starts as S; at each tick, from voice 1 up, voice j joins if j - 1 is in A and PMON bit j is set"
+
+abbrev pub joinAfter : ℕ → ℕ → ℕ → ℕ
+joinAfter pmon j a =
+    if bit a j && bit pmon (j + 1) then withBit a (j + 1) true else
+    a
+
+unfoldable pub joinedBy : ℕ → ℕ → ℕ
+joinedBy pmon a = turns (joinAfter pmon) 7 a
+
+-- over so many ticks
+unfoldable pub joinedOver : ℕ → ℕ → ℕ → ℕ
+joinedOver zero pmon a = a
+joinedOver (suc n) pmon a = joinedBy pmon (joinedOver n pmon a)
+
+unfoldable pub members : List Record → Modes → ℕ → ℕ
+members [] m a = a
+members (Write r x ∷ rs) m a = members rs (modesAfter r x m) a
+members (Ticks n ∷ rs) m a = members rs m (joinedOver n (m .pmon) a)
+members (Reading r ∷ rs) m a = members rs m a
+
+-- ---- how many they are
+
+abbrev pub counted : ℕ → ℕ → ℕ → ℕ
+counted a j n =
+    if bit a j then n + 1 else
+    n
+
+unfoldable pub voicesIn : ℕ → ℕ
+voicesIn a = turns (counted a) 8 0
