@@ -22,7 +22,7 @@ use Rattle.dsp.proofs.Fits.{facts-fit}
 
 -- ---- a row of the sheet
 
-lane-part : (j : ℕ) (old rest : List ℕ) → j * 4 + 4 ≤ length old → laneAt j (old ++ rest) ≡ laneAt j old
+pub lane-part : (j : ℕ) (old rest : List ℕ) → j * 4 + 4 ≤ length old → laneAt j (old ++ rest) ≡ laneAt j old
 lane-part j old rest h =
     let d = length-drop (j * 4) old in
     ap (take 4) (drop-append-le (j * 4) old rest (omega arith)) ∙ take-append-le 4 (drop (j * 4) old) rest (omega (arith, d, h))
