@@ -1,2 +1,3 @@
 pub mod Lanes
 pub mod Tape
+pub mod Sixteen
