@@ -1,0 +1,241 @@
+-- A rework over any old sheet that agrees outside the set gives the run of the same log: lane by lane, tick by tick, beat by beat.
+use mathlib.Core.Bool.{Bool, true, false}
+use mathlib.Core.List.{List, [], _∷_, _++_}
+use mathlib.Core.Path.{_≡_, refl, sym, ap, subst, _∙_}
+use Prim.Native.Nat.{ℕ, zero, suc, _+_, _*_, _/_, _%_, _≤_, _<_}
+use native.Mathlib.Omega.{arith}
+use borrow.Author.Count.{below-none, below-more}
+use lib.IntN.{ℤ, pos}
+use lib.ListN.{getD, set, drop, length, length-set, length-append}
+use Rattle.numbers.specs.Choice.{if_then_else_, _<?_, _=?_}
+use Rattle.numbers.specs.Signed.{cutZ}
+use Rattle.numbers.proofs.Choice.{chosen}
+use Rattle.sound.specs.Sound.{to16}
+use Rattle.dsp.specs.Machine.{noVoice, Parts}
+use Rattle.dsp.specs.Registers.{at, turns, writeVoice, resets, silenced, silenceVoice, silenceAll, voicesAfter}
+use Rattle.dsp.specs.Mix.{bit}
+use Rattle.dsp.specs.Sheet.{laneBytes, laneAt}
+use Rattle.dsp.specs.Lane.{Cell, cellAfter, cellOf, ownCell, shownCell, added, putBytes, landed, turned}
+use Rattle.dsp.specs.Fit.{FitVoice, FitGlob}
+use Rattle.dsp.specs.Tick.{Round, landing, turn}
+use Rattle.dsp.specs.declared.voice.Voice.{Voice}
+use Rattle.dsp.specs.declared.lane.Shared.{Shared}
+use Rattle.dsp.specs.declared.lane.Acc.{Acc}
+use Rattle.dsp.proofs.Turns.{turns-keep, set-keeps}
+use Rattle.dsp.proofs.Lanes.{fit-kept-either}
+use Rattle.dsp.proofs.Batches.{lane-part}
+use Rattle.dsp.proofs.Ticks.{RoundFit, fit-kept-turn, fit-kept-turns}
+use Rattle.rework.specs.Differ.{Outside}
+use Rattle.rework.proofs.Lanes.{lane-last}
+use Rattle.rework.proofs.Sixteen.{Is16, joined-halves, output16, sample16}
+
+-- ---- two lists side by side
+
+-- what two choices by one test have in common
+chosen-both : {A : Type 0} (R : A → A → Type 0) (b : Bool) {x y u v : A} → R x u → R y v → R (if b then x else y) (if b then u else v)
+chosen-both R true p q = p
+chosen-both R false p q = q
+
+-- after a store into both at n
+set-both : {A : Type 0} (R : A → A → Type 0) (d : A) (xs ys : List A) (n : ℕ) (x y : A) → length xs ≡ length ys
+    → (m : ℕ) → (m ≡ n → R x y) → R (getD xs m d) (getD ys m d) → R (getD (set xs n x) m d) (getD (set ys n y) m d)
+set-both R d [] [] n x y e m p h = h
+set-both R d [] (w ∷ ys) n x y e m p h = absurd (omega arith)
+set-both R d (v ∷ xs) [] n x y e m p h = absurd (omega arith)
+set-both R d (v ∷ xs) (w ∷ ys) zero x y e zero p h = p refl
+set-both R d (v ∷ xs) (w ∷ ys) zero x y e (suc m) p h = h
+set-both R d (v ∷ xs) (w ∷ ys) (suc n) x y e zero p h = h
+set-both R d (v ∷ xs) (w ∷ ys) (suc n) x y e (suc m) p h = set-both R d xs ys n x y (omega arith) m (λ q. p (ap suc q)) h
+
+turns-both : {A : Type 0} (R : A → A → Type 0) (f : ℕ → A → A) (k : ℕ) → ((n : ℕ) (x y : A) → n < k → R x y → R (f n x) (f n y))
+    → (n : ℕ) (x y : A) → n ≤ k → R x y → R (turns f n x) (turns f n y)
+unfolding turns
+turns-both R f k h zero x y l p = p
+turns-both R f k h (suc n) x y l p = h n (turns f n x) (turns f n y) (omega arith) (turns-both R f k h n x y (omega arith) p)
+
+-- the voices of a rework and of the run: the same in the set, and with the same volumes everywhere
+record Beside (a : ℕ) (vs ws : List Voice) : Type 0 where
+  count : length vs ≡ length ws
+  voices : (j : ℕ) → j < 8 → bit a j ≡ true → getD vs j noVoice ≡ getD ws j noVoice
+  lefts : (j : ℕ) → j < 8 → getD vs j noVoice .«left_vol» ≡ getD ws j noVoice .«left_vol»
+  rights : (j : ℕ) → j < 8 → getD vs j noVoice .«right_vol» ≡ getD ws j noVoice .«right_vol»
+
+beside-set : (a n : ℕ) (vs ws : List Voice) (v w : Voice) → Beside a vs ws → (bit a n ≡ true → v ≡ w) → v .«left_vol» ≡ w .«left_vol» → v .«right_vol» ≡ w .«right_vol»
+    → Beside a (set vs n v) (set ws n w)
+beside-set a n vs ws v w h e l r =
+    record {
+      count = length-set vs n v ∙ h .count ∙ sym (length-set ws n w);
+      voices = λ j m b. set-both _≡_ noVoice vs ws n v w (h .count) j (λ q. e (subst (λ (k : ℕ). bit a k ≡ true) q b)) (h .voices j m b);
+      lefts = λ j m. set-both (λ (x y : Voice). x .«left_vol» ≡ y .«left_vol») noVoice vs ws n v w (h .count) j (λ q. l) (h .lefts j m);
+      rights = λ j m. set-both (λ (x y : Voice). x .«right_vol» ≡ y .«right_vol») noVoice vs ws n v w (h .count) j (λ q. r) (h .rights j m);
+    }
+
+-- ---- a register write
+
+beside-write : (a i x : ℕ) (vs ws : List Voice) → i < 128 → Beside a vs ws → Beside a (voicesAfter i x vs) (voicesAfter i x ws)
+unfolding silenceAll silenceVoice
+beside-write a i x vs ws l h =
+    let n = i / 16 in
+    let m : n < 8 = omega arith in
+    chosen-both (Beside a) (i % 16 <? 8)
+    (beside-set a n vs ws _ _ h (λ b. ap (writeVoice (i % 16) x) (h .voices n m b)) (λ k. at (i % 16) 0 (cutZ 0x80 (pos x)) (h .lefts n m k)) (λ k. at (i % 16) 1 (cutZ 0x80 (pos x)) (h .rights n m k)))
+    (chosen-both (Beside a) (resets i x)
+    (turns-both (Beside a) silenceVoice 8 (λ j us zs k g. beside-set a j us zs _ _ g (λ b. ap silenced (g .voices j k b)) (g .lefts j k) (g .rights j k)) 8 vs ws (omega arith) h)
+    h)
+
+-- ---- one lane
+
+-- two cells that show the same
+record Shows (x y : Cell) : Type 0 where
+  out : x .out ≡ y .out
+  envx : x .envx ≡ y .envx
+  endx : x .endx ≡ y .endx
+  left : x .voice .«left_vol» ≡ y .voice .«left_vol»
+  right : x .voice .«right_vol» ≡ y .voice .«right_vol»
+
+abbrev slotOf : Cell → List ℕ
+slotOf x = laneBytes (x .out) (x .envx) (x .endx)
+
+endx-read : (b : Bool) → ((if b then 1 else 0) % 2 =? 1) ≡ b
+endx-read true = refl
+endx-read false = refl
+
+-- a lane of the sheet shows the cell that it was made of
+shown-read : (y : Cell) (v : Voice) (delay : ℕ) → Is16 (y .out) → v .«left_vol» ≡ y .voice .«left_vol» → v .«right_vol» ≡ y .voice .«right_vol»
+    → Shows (shownCell (slotOf y) v delay) y
+unfolding shownCell laneBytes
+shown-read y v delay h l r = record { out = joined-halves (y .out) h; envx = refl; endx = endx-read (y .endx); left = l; right = r }
+
+-- the cell that the run's voice j comes to
+abbrev cellIn : Shared → List ℕ → ℕ → Round → Cell
+cellIn c ram j s = ownCell c ram j (s .acc .prev) (getD (s .voices) j noVoice) (getD (s .delays) j 0) (s .bytes)
+
+left-kept : (c : Shared) (ram : List ℕ) (j : ℕ) (s : Round) → getD (s .voices) j noVoice .«left_vol» ≡ cellIn c ram j s .voice .«left_vol»
+unfolding ownCell cellOf cellAfter
+left-kept c ram j s = refl
+
+right-kept : (c : Shared) (ram : List ℕ) (j : ℕ) (s : Round) → getD (s .voices) j noVoice .«right_vol» ≡ cellIn c ram j s .voice .«right_vol»
+unfolding ownCell cellOf cellAfter
+right-kept c ram j s = refl
+
+-- a rework's round beside the run's
+record Abreast (a : ℕ) (r s : Round) : Type 0 where
+  beside : Beside a (r .voices) (s .voices)
+  waits : length (r .delays) ≡ length (s .delays)
+  delays : (j : ℕ) → j < 8 → bit a j ≡ true → getD (r .delays) j 0 ≡ getD (s .delays) j 0
+  bytes : r .bytes ≡ s .bytes
+  acc : r .acc ≡ s .acc
+  row : r .row ≡ s .row
+
+-- cells that show the same leave the rounds abreast
+land-both : (a j : ℕ) (w : Bool) (c : Shared) (r s : Round) (old new : List ℕ) (x y : Cell) → Abreast a r s → Shows x y → (bit a j ≡ true → x ≡ y)
+    → (if w then slotOf x else old) ≡ slotOf y
+    → Abreast a (landing j r (landed w c j (r .acc) (r .bytes) old x)) (landing j s (landed true c j (s .acc) (s .bytes) new y))
+land-both a j w c r s old new x y h e q z =
+    record {
+      beside = beside-set a j (r .voices) (s .voices) (x .voice) (y .voice) (h .beside) (λ b k. q b k .voice) (e .left) (e .right);
+      waits = length-set (r .delays) j (x .delay) ∙ h .waits ∙ sym (length-set (s .delays) j (y .delay));
+      delays = λ n l b. set-both _≡_ 0 (r .delays) (s .delays) j (x .delay) (y .delay) (h .waits) n (λ m k. q (subst (λ (i : ℕ). bit a i ≡ true) m b) k .delay) (h .delays n l b);
+      bytes = λ k. putBytes j (e .envx k) (e .out k) (e .endx k) (h .bytes k);
+      acc = λ k. added (bit (c .eon) j) (e .out k) (e .left k) (e .right k) (h .acc k);
+      row = λ k. h .row k ++ z k;
+    }
+
+-- a voice of the set is worked by both; of another the rework shows what the run comes to
+lane-both : (a j : ℕ) (w : Bool) (c : Shared) (ram : List ℕ) (r s : Round) (old new : List ℕ) → bit a j ≡ w → j < 8 → Abreast a r s → Is16 (cellIn c ram j s .out)
+    → (Outside a j → old ≡ slotOf (cellIn c ram j s))
+    → Abreast a (landing j r (turned w c ram j (getD (r .voices) j noVoice) (getD (r .delays) j 0) (r .acc) (r .bytes) old))
+    (landing j s (turned true c ram j (getD (s .voices) j noVoice) (getD (s .delays) j 0) (s .acc) (s .bytes) new))
+unfolding turned
+lane-both a j true c ram r s old new b l h o f =
+    let x = cellIn c ram j r in
+    let y = cellIn c ram j s in
+    let e : x ≡ y = (λ k. ownCell c ram j (h .acc k .prev) (h .beside .voices j l b k) (h .delays j l b k) (h .bytes k)) in
+    land-both a j true c r s old new x y h
+    (record { out = λ k. e k .out; envx = λ k. e k .envx; endx = λ k. e k .endx; left = λ k. e k .voice .«left_vol»; right = λ k. e k .voice .«right_vol» })
+    (λ _. e) (λ k. slotOf (e k))
+lane-both a j false c ram r s old new b l h o f =
+    let v = getD (r .voices) j noVoice in
+    let d = getD (r .delays) j 0 in
+    let y = cellIn c ram j s in
+    let g = shown-read y v d o (h .beside .lefts j l ∙ left-kept c ram j s) (h .beside .rights j l ∙ right-kept c ram j s) in
+    land-both a j false c r s old new (shownCell old v d) y h (subst (λ (z : List ℕ). Shows (shownCell z v d) y) (sym (f b)) g)
+    (λ t. let z : _≡_ {A = ℕ} 0 1 = cc in absurd (omega arith)) (f b)
+
+-- ---- the run's rounds
+
+-- the mask of all eight
+abbrev Has : ℕ → Type 0
+Has j = bit 0xFF j ≡ true
+
+full8 : (j : ℕ) → j < 8 → Has j
+full8 =
+    below-more Has 7
+    (below-more Has 6 (below-more Has 5 (below-more Has 4 (below-more Has 3 (below-more Has 2 (below-more Has 1 (below-more Has 0 (below-none Has) refl) refl) refl) refl) refl) refl) refl)
+    refl
+
+abbrev Samples16 : List Voice → Type 0
+Samples16 vs = (j : ℕ) → j < 8 → Is16 (getD vs j noVoice .«current_sample»)
+
+-- fit, and with samples of 16 bits
+record Sound (s : Round) : Type 0 where
+  fit : RoundFit s
+  samples : Samples16 (s .voices)
+
+sound-turn : (mask : ℕ) (old : List ℕ) (c : Shared) (ram : List ℕ) → Is16 (c .noise) → (j : ℕ) (s : Round) → j < 8 → Sound s → Sound (turn mask old c ram j s)
+unfolding turn turned
+sound-turn mask old c ram n j s l h =
+    let v = getD (s .voices) j noVoice in
+    let d = getD (s .delays) j 0 in
+    record {
+      fit = fit-kept-turn mask old c ram j s l (h .fit);
+      samples = λ k m. set-keeps (λ (v : Voice). Is16 (v .«current_sample»)) noVoice (s .voices) j _ (sample16 (bit mask j) c ram j (s .acc .prev) v d (s .bytes) (laneAt j old) n (h .samples j l)) k (h .samples k m);
+    }
+
+sound-turns : (mask : ℕ) (old : List ℕ) (c : Shared) (ram : List ℕ) → Is16 (c .noise) → (n : ℕ) (s : Round) → n ≤ 8 → Sound s → Sound (turns (turn mask old c ram) n s)
+sound-turns mask old c ram n = turns-keep Sound (turn mask old c ram) 8 (sound-turn mask old c ram n)
+
+-- what a sound voice puts out has 16 bits
+out16 : (c : Shared) (ram : List ℕ) (j : ℕ) (s : Round) → Is16 (c .noise) → j < 8 → Sound s → Is16 (cellIn c ram j s .out)
+unfolding ownCell cellOf cellAfter
+out16 c ram j s n l h =
+    let v = getD (s .voices) j noVoice in
+    let d = getD (s .delays) j 0 in
+    let x = cellIn c ram j s .voice in
+    let f = fit-kept-either true c ram j (s .acc .prev) v d (s .bytes) [] (h .fit .voices j l) (h .fit .delays j l) in
+    output16 (x .adsr .«envelope_phase») (x .adsr .«envelope_level») (x .«current_sample») (f .voice .adsr .level)
+    (sample16 true c ram j (s .acc .prev) v d (s .bytes) [] n (h .samples j l))
+
+row-more : (o : List ℕ) (c : Shared) (ram : List ℕ) (j : ℕ) (s : Round) → j < 8 → turn 0xFF o c ram j s .row ≡ s .row ++ slotOf (cellIn c ram j s)
+unfolding turn turned
+row-more o c ram j s l = rw (full8 j l)
+
+row-wide : (o : List ℕ) (c : Shared) (ram : List ℕ) (n : ℕ) (s : Round) → n ≤ 8 → length (turns (turn 0xFF o c ram) n s .row) ≡ length (s .row) + n * 4
+unfolding turns laneBytes
+row-wide o c ram zero s l = omega arith
+row-wide o c ram (suc n) s l =
+    let t = turns (turn 0xFF o c ram) n s in
+    let e = row-wide o c ram n s (omega arith) in
+    ap length (row-more o c ram n t (omega arith)) ∙ length-append (t .row) (slotOf (cellIn c ram n t)) ∙ omega (arith, e)
+
+-- ---- the voices of a tick
+
+turn-both : (a : ℕ) (old o : List ℕ) (c : Shared) (ram : List ℕ) (j : ℕ) (r s : Round) → Is16 (c .noise) → j < 8 → Sound s → Abreast a r s
+    → (Outside a j → laneAt j old ≡ slotOf (cellIn c ram j s)) → Abreast a (turn a old c ram j r) (turn 0xFF o c ram j s)
+unfolding turn
+turn-both a old o c ram j r s n l g h f = rw (full8 j l) (lane-both a j (bit a j) c ram r s (laneAt j old) (laneAt j o) refl l h (out16 c ram j s n l g) f)
+
+-- over a sheet that has the run's lanes outside the set
+turns-abreast : (a : ℕ) (old o : List ℕ) (c : Shared) (ram : List ℕ) (r s : Round) → Is16 (c .noise) → Sound s → Abreast a r s → s .row ≡ [] → (n : ℕ) → n ≤ 8
+    → ((j : ℕ) → j < n → Outside a j → laneAt j old ≡ laneAt j (turns (turn 0xFF o c ram) n s .row))
+    → Abreast a (turns (turn a old c ram) n r) (turns (turn 0xFF o c ram) n s)
+unfolding turns laneBytes
+turns-abreast a old o c ram r s m g h z zero l f = h
+turns-abreast a old o c ram r s m g h z (suc n) l f =
+    let t = turns (turn 0xFF o c ram) n s in
+    let y = slotOf (cellIn c ram n t) in
+    let e = row-more o c ram n t (omega arith) in
+    let k : length (t .row) ≡ n * 4 = row-wide o c ram n s (omega arith) ∙ omega (arith, ap length z) in
+    turn-both a old o c ram n (turns (turn a old c ram) n r) t m (omega arith) (sound-turns 0xFF o c ram m n s (omega arith) g)
+    (turns-abreast a old o c ram r s m g h z n (omega arith) (λ j i b. f j (omega arith) b ∙ ap (laneAt j) e ∙ lane-part j (t .row) y (omega (arith, k))))
+    (λ b. f n (omega arith) b ∙ ap (laneAt n) e ∙ lane-last n (t .row) y k refl)
