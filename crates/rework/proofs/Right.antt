@@ -6,28 +6,34 @@ use Prim.Native.Nat.{ℕ, zero, suc, _+_, _*_, _/_, _%_, _≤_, _<_}
 use native.Mathlib.Omega.{arith}
 use borrow.Author.Count.{below-none, below-more}
 use lib.IntN.{ℤ, pos}
-use lib.ListN.{getD, set, drop, length, length-set, length-append}
+use lib.ListN.{getD, set, drop, replicate, length, length-set, length-append, length-replicate}
 use Rattle.numbers.specs.Choice.{if_then_else_, _<?_, _=?_}
 use Rattle.numbers.specs.Signed.{cutZ}
 use Rattle.numbers.proofs.Choice.{chosen}
-use Rattle.sound.specs.Sound.{to16}
-use Rattle.dsp.specs.Machine.{noVoice, Parts}
-use Rattle.dsp.specs.Registers.{at, turns, writeVoice, resets, silenced, silenceVoice, silenceAll, voicesAfter}
-use Rattle.dsp.specs.Mix.{bit}
-use Rattle.dsp.specs.Sheet.{laneBytes, laneAt}
+use Rattle.sound.specs.Sound.{joined}
+use Rattle.dsp.specs.Machine.{noVoice, Parts, apart}
+use Rattle.dsp.specs.Registers.{at, turns, writeVoice, resets, silenced, silenceVoice, silenceAll, bytesAfter, voicesAfter, globWrite, writeParts}
+use Rattle.dsp.specs.Mix.{bit, masterOf}
+use Rattle.dsp.specs.Sheet.{pairBytes, laneBytes, laneAt}
+use Rattle.dsp.specs.Noise.{noiseTick}
+use Rattle.dsp.specs.Echo.{withEcho, echoNow, historyNow, echoMoved, echoWritten, echoTick, echoFrom, echoLane}
 use Rattle.dsp.specs.Lane.{Cell, cellAfter, cellOf, ownCell, shownCell, added, putBytes, landed, turned}
-use Rattle.dsp.specs.Fit.{FitVoice, FitGlob}
-use Rattle.dsp.specs.Tick.{Round, landing, turn}
+use Rattle.dsp.specs.Fit.{FitGlob, Fit}
+use Rattle.dsp.specs.Tick.{Round, landing, turn, voicesTick, globTick, sharedFrom, sharedOf, everything, startOf, Ticked, frameOf, mixed, tickOf, Bench, benchTick}
 use Rattle.dsp.specs.declared.voice.Voice.{Voice}
 use Rattle.dsp.specs.declared.lane.Shared.{Shared}
-use Rattle.dsp.specs.declared.lane.Acc.{Acc}
+use Rattle.dsp.specs.declared.mix.Stereo.{Stereo}
+use Rattle.dsp.specs.declared.registers.Dsp.{Dsp}
+use Rattle.dsp.specs.declared.registers.Glob.{Glob}
+use Rattle.dsp.specs.declared.tick.Work.{Work}
 use Rattle.dsp.proofs.Turns.{turns-keep, set-keeps}
 use Rattle.dsp.proofs.Lanes.{fit-kept-either}
 use Rattle.dsp.proofs.Batches.{lane-part}
-use Rattle.dsp.proofs.Ticks.{RoundFit, fit-kept-turn, fit-kept-turns}
-use Rattle.rework.specs.Differ.{Outside}
+use Rattle.dsp.proofs.Ticks.{RoundFit, BenchFit, fit-kept-turn, fit-kept-bench, fit-kept-bench-write}
+use Rattle.rework.specs.Differ.{Outside, Value}
 use Rattle.rework.proofs.Lanes.{lane-last}
-use Rattle.rework.proofs.Sixteen.{Is16, joined-halves, output16, sample16}
+use Rattle.rework.proofs.Sixteen.{Is16, joined-halves, output16, fir16, noise16, sample16}
+use Rattle.rework.proofs.Tape.{Beat, put, tick, ask, Small, Quiet, modesIn, Tape, behindTick, behindReading, tape, SameLanes, bare, Sim, Over, over, upon, Right}
 
 -- ---- two lists side by side
 
@@ -177,10 +183,13 @@ full8 =
 abbrev Samples16 : List Voice → Type 0
 Samples16 vs = (j : ℕ) → j < 8 → Is16 (getD vs j noVoice .«current_sample»)
 
+sample-set : (vs : List Voice) (n : ℕ) (v : Voice) → Is16 (v .«current_sample») → Samples16 vs → Samples16 (set vs n v)
+sample-set vs n v h k j l = set-keeps (λ (v : Voice). Is16 (v .«current_sample»)) noVoice vs n v h j (k j l)
+
 -- fit, and with samples of 16 bits
-record Sound (s : Round) : Type 0 where
-  fit : RoundFit s
-  samples : Samples16 (s .voices)
+pub record Sound (s : Round) : Type 0 where
+  pub fit : RoundFit s
+  pub samples : Samples16 (s .voices)
 
 sound-turn : (mask : ℕ) (old : List ℕ) (c : Shared) (ram : List ℕ) → Is16 (c .noise) → (j : ℕ) (s : Round) → j < 8 → Sound s → Sound (turn mask old c ram j s)
 unfolding turn turned
@@ -189,7 +198,7 @@ sound-turn mask old c ram n j s l h =
     let d = getD (s .delays) j 0 in
     record {
       fit = fit-kept-turn mask old c ram j s l (h .fit);
-      samples = λ k m. set-keeps (λ (v : Voice). Is16 (v .«current_sample»)) noVoice (s .voices) j _ (sample16 (bit mask j) c ram j (s .acc .prev) v d (s .bytes) (laneAt j old) n (h .samples j l)) k (h .samples k m);
+      samples = sample-set (s .voices) j _ (sample16 (bit mask j) c ram j (s .acc .prev) v d (s .bytes) (laneAt j old) n (h .samples j l)) (h .samples);
     }
 
 sound-turns : (mask : ℕ) (old : List ℕ) (c : Shared) (ram : List ℕ) → Is16 (c .noise) → (n : ℕ) (s : Round) → n ≤ 8 → Sound s → Sound (turns (turn mask old c ram) n s)
@@ -239,3 +248,145 @@ turns-abreast a old o c ram r s m g h z (suc n) l f =
     turn-both a old o c ram n (turns (turn a old c ram) n r) t m (omega arith) (sound-turns 0xFF o c ram m n s (omega arith) g)
     (turns-abreast a old o c ram r s m g h z n (omega arith) (λ j i b. f j (omega arith) b ∙ ap (laneAt j) e ∙ lane-part j (t .row) y (omega (arith, k))))
     (λ b. f n (omega arith) b ∙ ap (laneAt n) e ∙ lane-last n (t .row) y k refl)
+
+-- ---- what is needed of the run's parts
+
+pub record Good (p : Parts) : Type 0 where
+  pub round : Sound (startOf p)
+  pub glob : FitGlob (p .glob)
+
+pub good-start : (d : Dsp) → Value (apart d) → Fit d → Good (apart d)
+good-start d v f =
+    record {
+      round = record { fit = record { bytes = v .registers; count = v .voices; waits = v .delays; voices = f .voices; delays = f .delays }; samples = v .samples };
+      glob = f .glob;
+    }
+
+good-bench : (p : Parts) (ram old : List ℕ) → length ram ≡ 0x10000 → Good p → BenchFit (record { parts = p; ram = ram; pcm = []; sheet = []; old = old })
+good-bench p ram old l g = record { ram = l; round = g .round .fit; glob = g .glob }
+
+shared16 : (g : Glob) (bytes : List ℕ) → Is16 (sharedOf g bytes .noise)
+unfolding sharedFrom
+shared16 g bytes = noise16 (noiseTick (g .flg) (g .noise))
+
+pub good-tick : (w : Work) (old : List ℕ) (p : Parts) (ram : List ℕ) → length ram ≡ 0x10000 → Good p → Good (tickOf w old p ram .parts)
+unfolding benchTick tickOf voicesTick
+good-tick w old p ram l g =
+    let k = fit-kept-bench w (record { parts = p; ram = ram; pcm = []; sheet = []; old = old }) (good-bench p ram old l g) in
+    let t = sound-turns (w .voices) old (sharedOf (p .glob) (p .registers)) ram (shared16 (p .glob) (p .registers)) 8 (startOf p) (omega arith) (g .round) in
+    record { round = record { fit = k .round; samples = t .samples }; glob = k .glob }
+
+pub good-write : (i x : ℕ) (p : Parts) → i < 128 → x < 256 → Good p → Good (writeParts i x p)
+unfolding writeParts silenceAll silenceVoice
+good-write i x p l m g =
+    let k = fit-kept-bench-write i x _ l m (good-bench p (replicate 0x10000 0) [] (length-replicate {A = ℕ} 0x10000 0) g) in
+    let h = g .round .samples in
+    record {
+      round =
+          record {
+            fit = k .round;
+            samples =
+                chosen Samples16 (i % 16 <? 8) (sample-set (p .voices) (i / 16) _ (h (i / 16) (omega arith)) h)
+                (chosen Samples16 (resets i x) (turns-keep Samples16 silenceVoice 8 (λ n vs b c. sample-set vs n _ (c n b) c) 8 (p .voices) (omega arith) h) h);
+          };
+      glob = k .glob;
+    }
+
+-- ---- a register write keeps a rework's parts beside the run's
+
+sim-beside : (a : ℕ) (p q : Parts) → Sim a p q → Good q → Beside a (p .voices) (q .voices)
+sim-beside a p q h g = record { count = h .count ∙ sym (g .round .fit .count); voices = h .voices; lefts = h .lefts; rights = h .rights }
+
+sim-write : (a i x : ℕ) (p q : Parts) → i < 128 → Sim a p q → Good q → Good (writeParts i x q) → Sim a (writeParts i x p) (writeParts i x q)
+unfolding writeParts
+sim-write a i x p q l h g k =
+    let b = beside-write a i x (p .voices) (q .voices) l (sim-beside a p q h g) in
+    record {
+      bytes = ap (bytesAfter i x) (h .bytes);
+      count = b .count ∙ k .round .fit .count;
+      waits = h .waits;
+      voices = b .voices;
+      lefts = b .lefts;
+      rights = b .rights;
+      delays = h .delays;
+      glob = ap (globWrite i x) (h .glob);
+    }
+
+-- ---- a tick
+
+-- the numbers but the echo's, after both ticks
+globs-both : (g k : Glob) (slot : List ℕ) (l r : ℤ) → bare g ≡ bare k → bare (echoFrom slot (globTick g)) ≡ bare (echoMoved (globTick k) l r)
+unfolding echoFrom echoMoved globTick
+globs-both g k slot l r e = ap globTick e
+
+shared-both : (g k : Glob) (x y : List ℕ) → bare g ≡ bare k → x ≡ y → sharedOf g x ≡ sharedOf k y
+unfolding sharedFrom
+shared-both g k x y e d = λ i. sharedOf (e i) (d i)
+
+-- the stereo sample is of the echo's output and of numbers that are not the echo's
+masters-both : (g k : Glob) (s t : Stereo) → bare g ≡ bare k → g .«echo_out_l» ≡ k .«echo_out_l» → g .«echo_out_r» ≡ k .«echo_out_r» → s ≡ t → masterOf g s ≡ masterOf k t
+unfolding masterOf
+masters-both g k s t e l r d = λ i. masterOf (withEcho (e i) 0 0 (l i) (r i)) (d i)
+
+echo16 : (g : Glob) (ram : List ℕ) (k : ℕ) (taps history : List ℤ) → Is16 (echoNow g ram k taps history)
+unfolding echoNow
+echo16 g ram k taps history = fir16 (historyNow g ram k history) taps
+
+-- what a rework's tick t has of the run's u
+record Same (a : ℕ) (ram : List ℕ) (t u : Ticked) : Type 0 where
+  parts : Sim a (t .parts) (u .parts)
+  frame : t .frame ≡ u .frame
+  row : t .row ≡ u .row
+  left : t .ram ≡ ram
+  right : u .ram ≡ ram
+
+-- echo and mix: the echo's lane of the old sheet is the run's
+mixed-both : (a : ℕ) (slot found : List ℕ) (p q : Parts) (ram : List ℕ) (r s : Round) → bare (p .glob) ≡ bare (q .glob) → bit (q .glob .flg) 5 ≡ true → RoundFit s → Abreast a r s
+    → slot ≡ echoLane true (globTick (q .glob)) (q .taps) (q .left) (q .right) ram (s .acc .input) found .slot
+    → Same a ram (mixed (p .taps) r (echoLane false (globTick (p .glob)) (p .taps) (p .left) (p .right) ram (r .acc .input) slot))
+    (mixed (q .taps) s (echoLane true (globTick (q .glob)) (q .taps) (q .left) (q .right) ram (s .acc .input) found))
+unfolding echoLane echoTick echoFrom echoMoved echoWritten globTick pairBytes
+mixed-both a slot found p q ram r s e b f h z =
+    let k = globTick (q .glob) in
+    let l = echoNow k ram 0 (q .taps) (q .left) in
+    let m = echoNow k ram 2 (q .taps) (q .right) in
+    let g = globs-both (p .glob) (q .glob) slot l m e in
+    record {
+      parts =
+          record {
+            bytes = h .bytes;
+            count = h .beside .count ∙ f .count;
+            waits = h .waits ∙ f .waits;
+            voices = h .beside .voices;
+            lefts = h .beside .lefts;
+            rights = h .beside .rights;
+            delays = h .delays;
+            glob = g;
+          };
+      frame =
+          ap frameOf
+          (masters-both (echoFrom slot (globTick (p .glob))) (echoMoved k l m) (r .acc .dry) (s .acc .dry) g
+          (ap (λ (x : List ℕ). joined (getD x 0 0) (getD x 1 0)) z ∙ joined-halves l (echo16 k ram 0 (q .taps) (q .left)))
+          (ap (λ (x : List ℕ). joined (getD x 2 0) (getD x 3 0)) z ∙ joined-halves m (echo16 k ram 2 (q .taps) (q .right)))
+          (λ i. h .acc i .dry));
+      row = λ i. h .row i ++ z i;
+      left = refl;
+      right = rw b;
+    }
+
+tick-both : (a : ℕ) (old o : List ℕ) (p q : Parts) (ram : List ℕ) → Sim a p q → Good q → bit (q .glob .flg) 5 ≡ true → SameLanes a old (tickOf everything o q ram .row)
+    → Same a ram (tickOf (record { voices = a; echo = false }) old p ram) (tickOf everything o q ram)
+unfolding tickOf voicesTick echoLane pairBytes
+tick-both a old o p q ram h g b f =
+    let c = sharedOf (q .glob) (q .registers) in
+    let d = sharedOf (p .glob) (p .registers) in
+    let s = turns (turn 0xFF o c ram) 8 (startOf q) in
+    let slot = echoLane true (globTick (q .glob)) (q .taps) (q .left) (q .right) ram (s .acc .input) (laneAt 8 o) .slot in
+    let n = shared16 (q .glob) (q .registers) in
+    let k : length (s .row) ≡ 32 = row-wide o c ram 8 (startOf q) (omega arith) in
+    let y : Abreast a (startOf p) (startOf q) =
+    record { beside = sim-beside a p q h g; waits = h .waits ∙ sym (g .round .fit .waits); delays = h .delays; bytes = h .bytes; acc = refl; row = refl } in
+    let u = turns-abreast a old o c ram (startOf p) (startOf q) n (g .round) y refl 8 (omega arith) (λ j l x. f j (omega arith) (λ _. x) ∙ lane-part j (s .row) slot (omega (arith, k))) in
+    let t = subst (λ (x : Shared). Abreast a (turns (turn a old x ram) 8 (startOf p)) s) (sym (shared-both (p .glob) (q .glob) (p .registers) (q .registers) (h .glob) (h .bytes))) u in
+    mixed-both a (laneAt 8 old) (laneAt 8 o) p q ram (turns (turn a old d ram) 8 (startOf p)) s (h .glob) b (sound-turns 0xFF o c ram n 8 (startOf q) (omega arith) (g .round) .fit) t
+    (f 8 (omega arith) (λ l. absurd (omega arith)) ∙ lane-last 8 (s .row) slot k refl)
