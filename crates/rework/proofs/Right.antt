@@ -16,7 +16,7 @@ use Rattle.dsp.specs.Registers.{at, turns, writeVoice, resets, silenced, silenc
 use Rattle.dsp.specs.Mix.{bit, masterOf}
 use Rattle.dsp.specs.Sheet.{pairBytes, laneBytes, laneAt}
 use Rattle.dsp.specs.Noise.{noiseTick}
-use Rattle.dsp.specs.Echo.{withEcho, echoNow, historyNow, echoMoved, echoWritten, echoTick, echoFrom, echoLane}
+use Rattle.dsp.specs.Echo.{EchoLane, withEcho, echoNow, historyNow, echoMoved, echoWritten, echoTick, echoFrom, echoLane}
 use Rattle.dsp.specs.Lane.{Cell, cellAfter, cellOf, ownCell, shownCell, added, putBytes, landed, turned}
 use Rattle.dsp.specs.Fit.{FitGlob, Fit}
 use Rattle.dsp.specs.Tick.{Round, landing, turn, voicesTick, globTick, sharedFrom, sharedOf, everything, startOf, Ticked, frameOf, mixed, tickOf, Bench, benchTick}
@@ -390,3 +390,60 @@ tick-both a old o p q ram h g b f =
     let t = subst (λ (x : Shared). Abreast a (turns (turn a old x ram) 8 (startOf p)) s) (sym (shared-both (p .glob) (q .glob) (p .registers) (q .registers) (h .glob) (h .bytes))) u in
     mixed-both a (laneAt 8 old) (laneAt 8 o) p q ram (turns (turn a old d ram) 8 (startOf p)) s (h .glob) b (sound-turns 0xFF o c ram n 8 (startOf q) (omega arith) (g .round) .fit) t
     (f 8 (omega arith) (λ l. absurd (omega arith)) ∙ lane-last 8 (s .row) slot k refl)
+
+-- ---- a log
+
+-- a tick keeps the two fields that decide, and a write sets them as the log says
+modes-tick : (w : Work) (old : List ℕ) (p : Parts) (ram : List ℕ) → modesIn (tickOf w old p ram .parts .glob) ≡ modesIn (p .glob)
+unfolding tickOf echoLane echoTick echoMoved echoFrom globTick
+modes-tick w old p ram = chosen (λ (e : EchoLane). modesIn (e .echo .glob) ≡ modesIn (p .glob)) (w .echo) refl refl
+
+over-first : {a : ℕ} {old r : List ℕ} {rs : List (List ℕ)} → Over a old (r ∷ rs) → SameLanes a old r × Over a (drop 36 old) rs
+over-first (upon s h) = (s, h)
+
+ticks-right : (a : ℕ) (ram : List ℕ) (t u : Ticked) (x y : List ℕ → Tape) → Same a ram t u → Right a (x ram) (y ram) → Right a (behindTick t (x (t .ram))) (behindTick u (y (u .ram)))
+ticks-right a ram t u x y s h =
+    let k : Right a (x (t .ram)) (y (u .ram)) = subst (λ (m : List ℕ). Right a (x m) (y (u .ram))) (sym (s .left)) (subst (λ (m : List ℕ). Right a (x ram) (y m)) (sym (s .right)) h) in
+    record { frames = λ i. s .frame i ∷ k .frames i; rows = λ i. s .row i ∷ k .rows i; readings = k .readings; parts = k .parts }
+
+pub right : (a : ℕ) (bs : List Beat) (o old : List ℕ) (p q : Parts) (ram : List ℕ) → length ram ≡ 0x10000 → Small bs → Sim a p q → Good q
+    → Quiet bs (modesIn (q .glob)) → Over a old (tape everything bs o q ram .rows)
+    → Right a (tape (record { voices = a; echo = false }) bs old p ram) (tape everything bs o q ram)
+unfolding tape Small Quiet writeParts
+right a [] o old p q ram l m h g k v = record { frames = refl; rows = refl; readings = refl; parts = h }
+right a (put i x ∷ bs) o old p q ram l m h g k v =
+    let n = good-write i x q (m .0) (m .1) g in
+    right a bs o old (writeParts i x p) (writeParts i x q) ram l (m .2) (sim-write a i x p q (m .0) h g n) n k v
+right a (tick ∷ bs) o old p q ram l m h g k v =
+    let w : Work = record { voices = a; echo = false } in
+    let t = tickOf w old p ram in
+    let u = tickOf everything o q ram in
+    let f = over-first v in
+    let s = tick-both a old o p q ram h g (k .0) (f .0) in
+    let r = right a bs (drop 36 o) (drop 36 old) (t .parts) (u .parts) ram l m (s .parts) (good-tick everything o q ram l g)
+    (subst (Quiet bs) (sym (modes-tick everything o q ram)) (k .1))
+    (subst (λ (n : List ℕ). Over a (drop 36 old) (tape everything bs (drop 36 o) (u .parts) n .rows)) (s .right) (f .1)) in
+    ticks-right a ram t u (λ n. tape w bs (drop 36 old) (t .parts) n) (λ n. tape everything bs (drop 36 o) (u .parts) n) s r
+right a (ask i ∷ bs) o old p q ram l m h g k v =
+    let r = right a bs o old p q ram l m h g k v in
+    record { frames = r .frames; rows = r .rows; readings = λ n. getD (h .bytes n) i 0 ∷ r .readings n; parts = r .parts }
+
+-- ---- the rows of a run
+
+row-36 : (o : List ℕ) (q : Parts) (ram : List ℕ) → length (tickOf everything o q ram .row) ≡ 36
+unfolding tickOf voicesTick echoLane pairBytes
+row-36 o q ram =
+    let c = sharedOf (q .glob) (q .registers) in
+    let e = row-wide o c ram 8 (startOf q) (omega arith) in
+    length-append (turns (turn 0xFF o c ram) 8 (startOf q) .row) _ ∙ omega (arith, e)
+
+unfoldable pub Sized36 : List (List ℕ) → Type 0
+Sized36 [] = Unit {0}
+Sized36 (r ∷ rs) = (length r ≡ 36) × Sized36 rs
+
+pub rows-36 : (bs : List Beat) (o : List ℕ) (q : Parts) (ram : List ℕ) → Sized36 (tape everything bs o q ram .rows)
+unfolding tape Sized36
+rows-36 [] o q ram = tt
+rows-36 (put i x ∷ bs) o q ram = rows-36 bs o (writeParts i x q) ram
+rows-36 (tick ∷ bs) o q ram = let t = tickOf everything o q ram in (row-36 o q ram, rows-36 bs (drop 36 o) (t .parts) (t .ram))
+rows-36 (ask i ∷ bs) o q ram = rows-36 bs o q ram
