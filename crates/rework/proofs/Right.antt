@@ -19,7 +19,7 @@ use Rattle.dsp.specs.Noise.{noiseTick}
 use Rattle.dsp.specs.Echo.{EchoLane, withEcho, echoNow, historyNow, echoMoved, echoWritten, echoTick, echoFrom, echoLane}
 use Rattle.dsp.specs.Lane.{Cell, cellAfter, cellOf, ownCell, shownCell, added, putBytes, landed, turned}
 use Rattle.dsp.specs.Fit.{FitGlob, Fit}
-use Rattle.dsp.specs.Tick.{Round, landing, turn, voicesTick, globTick, sharedFrom, sharedOf, everything, startOf, Ticked, frameOf, mixed, tickOf, Bench, benchTick}
+use Rattle.dsp.specs.Tick.{Round, landing, turn, voicesTick, globTick, sharedFrom, sharedOf, everything, startOf, Ticked, frameOf, mixed, tickOf, benchTick}
 use Rattle.dsp.specs.declared.voice.Voice.{Voice}
 use Rattle.dsp.specs.declared.lane.Shared.{Shared}
 use Rattle.dsp.specs.declared.mix.Stereo.{Stereo}
@@ -33,7 +33,7 @@ use Rattle.dsp.proofs.Ticks.{RoundFit, BenchFit, fit-kept-turn, fit-kept-bench,
 use Rattle.rework.specs.Differ.{Outside, Value}
 use Rattle.rework.proofs.Lanes.{lane-last}
 use Rattle.rework.proofs.Sixteen.{Is16, joined-halves, output16, fir16, noise16, sample16}
-use Rattle.rework.proofs.Tape.{Beat, put, tick, ask, Small, Quiet, modesIn, Tape, behindTick, behindReading, tape, SameLanes, bare, Sim, Over, over, upon, Right}
+use Rattle.rework.proofs.Tape.{Beat, put, tick, ask, Small, Quiet, modesIn, Tape, behindTick, tape, SameLanes, bare, Sim, Over, upon, Right}
 
 -- ---- two lists side by side
 
@@ -53,6 +53,7 @@ set-both R d (v ∷ xs) (w ∷ ys) zero x y e (suc m) p h = h
 set-both R d (v ∷ xs) (w ∷ ys) (suc n) x y e zero p h = h
 set-both R d (v ∷ xs) (w ∷ ys) (suc n) x y e (suc m) p h = set-both R d xs ys n x y (omega arith) m (λ q. p (ap suc q)) h
 
+-- through turns of both
 turns-both : {A : Type 0} (R : A → A → Type 0) (f : ℕ → A → A) (k : ℕ) → ((n : ℕ) (x y : A) → n < k → R x y → R (f n x) (f n y))
     → (n : ℕ) (x y : A) → n ≤ k → R x y → R (turns f n x) (turns f n y)
 unfolding turns
@@ -116,13 +117,10 @@ shown-read y v delay h l r = record { out = joined-halves (y .out) h; envx = ref
 abbrev cellIn : Shared → List ℕ → ℕ → Round → Cell
 cellIn c ram j s = ownCell c ram j (s .acc .prev) (getD (s .voices) j noVoice) (getD (s .delays) j 0) (s .bytes)
 
-left-kept : (c : Shared) (ram : List ℕ) (j : ℕ) (s : Round) → getD (s .voices) j noVoice .«left_vol» ≡ cellIn c ram j s .voice .«left_vol»
+volumes-kept : (c : Shared) (ram : List ℕ) (j : ℕ) (s : Round)
+    → (getD (s .voices) j noVoice .«left_vol» ≡ cellIn c ram j s .voice .«left_vol») × (getD (s .voices) j noVoice .«right_vol» ≡ cellIn c ram j s .voice .«right_vol»)
 unfolding ownCell cellOf cellAfter
-left-kept c ram j s = refl
-
-right-kept : (c : Shared) (ram : List ℕ) (j : ℕ) (s : Round) → getD (s .voices) j noVoice .«right_vol» ≡ cellIn c ram j s .voice .«right_vol»
-unfolding ownCell cellOf cellAfter
-right-kept c ram j s = refl
+volumes-kept c ram j s = (refl, refl)
 
 -- a rework's round beside the run's
 record Abreast (a : ℕ) (r s : Round) : Type 0 where
@@ -164,7 +162,8 @@ lane-both a j false c ram r s old new b l h o f =
     let v = getD (r .voices) j noVoice in
     let d = getD (r .delays) j 0 in
     let y = cellIn c ram j s in
-    let g = shown-read y v d o (h .beside .lefts j l ∙ left-kept c ram j s) (h .beside .rights j l ∙ right-kept c ram j s) in
+    let k = volumes-kept c ram j s in
+    let g = shown-read y v d o (h .beside .lefts j l ∙ k .0) (h .beside .rights j l ∙ k .1) in
     land-both a j false c r s old new (shownCell old v d) y h (subst (λ (z : List ℕ). Shows (shownCell z v d) y) (sym (f b)) g)
     (λ t. let z : _≡_ {A = ℕ} 0 1 = cc in absurd (omega arith)) (f b)
 
@@ -180,6 +179,7 @@ full8 =
     (below-more Has 6 (below-more Has 5 (below-more Has 4 (below-more Has 3 (below-more Has 2 (below-more Has 1 (below-more Has 0 (below-none Has) refl) refl) refl) refl) refl) refl) refl)
     refl
 
+-- every voice's sample has 16 bits
 abbrev Samples16 : List Voice → Type 0
 Samples16 vs = (j : ℕ) → j < 8 → Is16 (getD vs j noVoice .«current_sample»)
 
@@ -215,6 +215,7 @@ out16 c ram j s n l h =
     output16 (x .adsr .«envelope_phase») (x .adsr .«envelope_level») (x .«current_sample») (f .voice .adsr .level)
     (sample16 true c ram j (s .acc .prev) v d (s .bytes) [] n (h .samples j l))
 
+-- a turn puts its lane behind the row
 row-more : (o : List ℕ) (c : Shared) (ram : List ℕ) (j : ℕ) (s : Round) → j < 8 → turn 0xFF o c ram j s .row ≡ s .row ++ slotOf (cellIn c ram j s)
 unfolding turn turned
 row-more o c ram j s l = rw (full8 j l)
@@ -265,10 +266,12 @@ good-start d v f =
 good-bench : (p : Parts) (ram old : List ℕ) → length ram ≡ 0x10000 → Good p → BenchFit (record { parts = p; ram = ram; pcm = []; sheet = []; old = old })
 good-bench p ram old l g = record { ram = l; round = g .round .fit; glob = g .glob }
 
+-- what all voices see of the noise
 shared16 : (g : Glob) (bytes : List ℕ) → Is16 (sharedOf g bytes .noise)
 unfolding sharedFrom
 shared16 g bytes = noise16 (noiseTick (g .flg) (g .noise))
 
+-- what a tick leaves
 pub good-tick : (w : Work) (old : List ℕ) (p : Parts) (ram : List ℕ) → length ram ≡ 0x10000 → Good p → Good (tickOf w old p ram .parts)
 unfolding benchTick tickOf voicesTick
 good-tick w old p ram l g =
@@ -276,6 +279,7 @@ good-tick w old p ram l g =
     let t = sound-turns (w .voices) old (sharedOf (p .glob) (p .registers)) ram (shared16 (p .glob) (p .registers)) 8 (startOf p) (omega arith) (g .round) in
     record { round = record { fit = k .round; samples = t .samples }; glob = k .glob }
 
+-- what a write leaves
 pub good-write : (i x : ℕ) (p : Parts) → i < 128 → x < 256 → Good p → Good (writeParts i x p)
 unfolding writeParts silenceAll silenceVoice
 good-write i x p l m g =
@@ -294,6 +298,7 @@ good-write i x p l m g =
 
 -- ---- a register write keeps a rework's parts beside the run's
 
+-- the voices of both
 sim-beside : (a : ℕ) (p q : Parts) → Sim a p q → Good q → Beside a (p .voices) (q .voices)
 sim-beside a p q h g = record { count = h .count ∙ sym (g .round .fit .count); voices = h .voices; lefts = h .lefts; rights = h .rights }
 
@@ -314,7 +319,7 @@ sim-write a i x p q l h g k =
 
 -- ---- a tick
 
--- the numbers but the echo's, after both ticks
+-- the numbers without the echo's, after both ticks
 globs-both : (g k : Glob) (slot : List ℕ) (l r : ℤ) → bare g ≡ bare k → bare (echoFrom slot (globTick g)) ≡ bare (echoMoved (globTick k) l r)
 unfolding echoFrom echoMoved globTick
 globs-both g k slot l r e = ap globTick e
@@ -374,6 +379,7 @@ mixed-both a slot found p q ram r s e b f h z =
       right = rw b;
     }
 
+-- the whole tick, over a row that has the run's lanes outside the set and the echo's
 tick-both : (a : ℕ) (old o : List ℕ) (p q : Parts) (ram : List ℕ) → Sim a p q → Good q → bit (q .glob .flg) 5 ≡ true → SameLanes a old (tickOf everything o q ram .row)
     → Same a ram (tickOf (record { voices = a; echo = false }) old p ram) (tickOf everything o q ram)
 unfolding tickOf voicesTick echoLane pairBytes
@@ -393,7 +399,7 @@ tick-both a old o p q ram h g b f =
 
 -- ---- a log
 
--- a tick keeps the two fields that decide, and a write sets them as the log says
+-- a tick keeps the two fields that decide
 modes-tick : (w : Work) (old : List ℕ) (p : Parts) (ram : List ℕ) → modesIn (tickOf w old p ram .parts .glob) ≡ modesIn (p .glob)
 unfolding tickOf echoLane echoTick echoMoved echoFrom globTick
 modes-tick w old p ram = chosen (λ (e : EchoLane). modesIn (e .echo .glob) ≡ modesIn (p .glob)) (w .echo) refl refl
@@ -401,11 +407,13 @@ modes-tick w old p ram = chosen (λ (e : EchoLane). modesIn (e .echo .glob) ≡ 
 over-first : {a : ℕ} {old r : List ℕ} {rs : List (List ℕ)} → Over a old (r ∷ rs) → SameLanes a old r × Over a (drop 36 old) rs
 over-first (upon s h) = (s, h)
 
+-- a tick that is the run's, before a rest that is the run's
 ticks-right : (a : ℕ) (ram : List ℕ) (t u : Ticked) (x y : List ℕ → Tape) → Same a ram t u → Right a (x ram) (y ram) → Right a (behindTick t (x (t .ram))) (behindTick u (y (u .ram)))
 ticks-right a ram t u x y s h =
     let k : Right a (x (t .ram)) (y (u .ram)) = subst (λ (m : List ℕ). Right a (x m) (y (u .ram))) (sym (s .left)) (subst (λ (m : List ℕ). Right a (x ram) (y m)) (sym (s .right)) h) in
     record { frames = λ i. s .frame i ∷ k .frames i; rows = λ i. s .row i ∷ k .rows i; readings = k .readings; parts = k .parts }
 
+-- beat by beat
 pub right : (a : ℕ) (bs : List Beat) (o old : List ℕ) (p q : Parts) (ram : List ℕ) → length ram ≡ 0x10000 → Small bs → Sim a p q → Good q
     → Quiet bs (modesIn (q .glob)) → Over a old (tape everything bs o q ram .rows)
     → Right a (tape (record { voices = a; echo = false }) bs old p ram) (tape everything bs o q ram)

@@ -1,7 +1,7 @@
 -- Numbers of 16 bits: they are read back from their two bytes; a voice's output and the echo's have 16 bits, and so has a voice's sample after a tick.
 use mathlib.Core.Bool.{Bool, not, _&&_}
 use mathlib.Core.List.{List}
-use mathlib.Core.Path.{_≡_, refl, ap, subst, _∙_}
+use mathlib.Core.Path.{_≡_, refl, ap, subst}
 use Prim.Native.Nat.{ℕ, suc, _+_, _-_, _*_, _/_, _%_, _^_, _≤_, _<_}
 use native.Mathlib.Nat.{le-refl}
 use native.Mathlib.Omega.{arith}
@@ -21,7 +21,7 @@ use Rattle.dsp.specs.Mix.{bit, scaledOutput}
 use Rattle.dsp.specs.Gauss.{tapZ}
 use Rattle.dsp.specs.Noise.{noiseSample}
 use Rattle.dsp.specs.Voice.{Sounding, Stepped, advanced, resolved, withEnvelope, interpolated, idle, shown, sounded, voiceStep}
-use Rattle.dsp.specs.Lane.{Cell, Waiting, playOf, keyedOff, keyedOn, delayOf, waited, noised, polledOf, waitedOf, cellAfter, cellOf, ownCell, shownCell}
+use Rattle.dsp.specs.Lane.{Cell, Waiting, keyedOff, keyedOn, delayOf, waited, noised, polledOf, waitedOf, cellAfter, cellOf, ownCell, shownCell}
 use Rattle.dsp.specs.declared.adsr.EnvelopePhase.{EnvelopePhase}
 use Rattle.dsp.specs.declared.adsr.Settings.{Settings}
 use Rattle.dsp.specs.declared.noise.Noise.{Noise}
@@ -79,7 +79,7 @@ joined-halves x h =
 
 -- ---- outputs
 
--- an output has the bits of its sample, for a level that is fit
+-- an output has 16 bits where its sample has and its level is fit
 pub output16 : (phase : EnvelopePhase) (level : ℕ) (sample : ℤ) → level ≤ 0x800 → to16 sample ≡ sample → to16 (scaledOutput phase level sample) ≡ scaledOutput phase level sample
 unfolding scaledOutput
 output16 phase level sample l h =
@@ -136,7 +136,7 @@ waited16 c ram j prev v delay srcn envx endx samples h =
     let p = polled16 c j v endx h in
     chosen (λ (w : Waiting). Sample16 (w .play)) (delayOf (bit (c .kon) j) delay =? 0) (step16 ram (c .dir) srcn _ (v .pitch) _ envx _ p) p
 
--- worked, or shown from the sheet
+-- the sample that a tick leaves: worked, or shown from the sheet
 pub sample16 : (worked : Bool) (c : Shared) (ram : List ℕ) (j : ℕ) (prev : ℤ) (v : Voice) (delay : ℕ) (bytes slot : List ℕ) → Is16 (c .noise) → Is16 (v .«current_sample»)
     → Is16 ((if worked then ownCell c ram j prev v delay bytes else shownCell slot v delay) .voice .«current_sample»)
 unfolding ownCell cellOf cellAfter noised shownCell
