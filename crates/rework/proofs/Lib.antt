@@ -1,2 +1,4 @@
 pub mod Lanes
 pub mod Tape
+pub mod Sixteen
+pub mod Right
