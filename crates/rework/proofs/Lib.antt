@@ -1,3 +1,4 @@
 pub mod Bits
+pub mod Kept
 pub mod Lanes
 pub mod Tape

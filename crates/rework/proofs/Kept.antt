@@ -1,0 +1,119 @@
+-- A run, and the run of its log without the named voices' own writes, agree outside the set as it runs.
+use mathlib.Core.Bool.{Bool, true, false, true≢false}
+use mathlib.Core.List.{List, [], _∷_, _++_}
+use mathlib.Core.Logic.{_≢_}
+use mathlib.Core.Path.{_≡_, refl, sym, ap, subst, _∙_}
+use Prim.Native.Nat.{ℕ, zero, suc, _+_, _*_, _/_, _%_, _≤_, _<_}
+use native.Mathlib.Omega.{arith}
+use native.Mathlib.Decide.{ℕ-discrete}
+use borrow.Author.Tests.{ne-eqb, lt-ltb}
+use lib.ListN.{getD, set, length, length-set}
+use lib.Seq.{getD-set-same, getD-set-other, set-getD}
+use Rattle.numbers.specs.Choice.{if_then_else_, _<?_, _=?_}
+use Rattle.numbers.proofs.Choice.{chosen}
+use Rattle.dsp.specs.Machine.{noVoice, Parts}
+use Rattle.dsp.specs.Registers.{turns, resets, silenced, silenceVoice, silenceAll, globWrite, tapsAfter, writeParts}
+use Rattle.dsp.specs.Mix.{bit}
+use Rattle.dsp.specs.Lane.{putBytes, turned}
+use Rattle.dsp.specs.Tick.{Round, turn, voicesTick, sharedOf, startOf, tickOf}
+use Rattle.dsp.specs.declared.voice.Voice.{Voice}
+use Rattle.dsp.specs.declared.lane.Shared.{Shared}
+use Rattle.dsp.specs.declared.registers.Glob.{Glob}
+use Rattle.dsp.specs.declared.tick.Work.{Work}
+use Rattle.dsp.proofs.Turns.{turns-keep}
+use Rattle.dsp.proofs.Tests.{lt, _and_}
+use Rattle.rework.specs.Alike.{named}
+use Rattle.rework.specs.Differ.{Outside, SameBytes, SameBut}
+use Rattle.rework.proofs.Bits.{itself}
+
+-- ---- lengths
+
+pub record Sized (p : Parts) : Type 0 where
+  pub registers : length (p .registers) ≡ 128
+  pub voices : length (p .voices) ≡ 8
+  pub delays : length (p .delays) ≡ 8
+
+abbrev Eight : List Voice → Type 0
+Eight vs = length vs ≡ 8
+
+pub sized-write : (i x : ℕ) (p : Parts) → Sized p → Sized (writeParts i x p)
+unfolding writeParts silenceAll silenceVoice
+sized-write i x p h =
+    record {
+      registers = chosen (λ (l : List ℕ). length l ≡ 128) (resets i x) (simp length-set (h .registers)) (simp length-set (h .registers));
+      voices =
+          chosen Eight (i % 16 <? 8) (length-set (p .voices) (i / 16) _ ∙ h .voices)
+          (chosen Eight (resets i x) (turns-keep Eight silenceVoice 8 (λ n vs l e. length-set vs n _ ∙ e) 8 (p .voices) (omega arith) (h .voices)) (h .voices));
+      delays = h .delays;
+    }
+
+-- the parts between two turns of a tick
+abbrev amid : Parts → Round → Parts
+amid p r = record { registers = r .bytes; voices = r .voices; delays = r .delays; taps = p .taps; left = p .left; right = p .right; glob = p .glob }
+
+sized-turn : (mask : ℕ) (old : List ℕ) (c : Shared) (ram : List ℕ) (p : Parts) (j : ℕ) (r : Round) → Sized (amid p r) → Sized (amid p (turn mask old c ram j r))
+unfolding turn turned putBytes
+sized-turn mask old c ram p j r h =
+    record { registers = simp length-set (h .registers); voices = length-set (r .voices) j _ ∙ h .voices; delays = length-set (r .delays) j _ ∙ h .delays }
+
+pub sized-tick : (w : Work) (old : List ℕ) (p : Parts) (ram : List ℕ) → Sized p → Sized (tickOf w old p ram .parts)
+unfolding tickOf voicesTick
+sized-tick w old p ram h =
+    let c = sharedOf (p .glob) (p .registers) in
+    let s = turns-keep (λ (r : Round). Sized (amid p r)) (turn (w .voices) old c ram) 8 (λ j r l k. sized-turn (w .voices) old c ram p j r k) 8 (startOf p) (omega arith) h in
+    record { registers = s .registers; voices = s .voices; delays = s .delays }
+
+-- ---- two runs side by side
+
+-- what each turn keeps between them
+turns-both : {A B : Type 0} (R : ℕ → A → B → Type 0) (f : ℕ → A → A) (g : ℕ → B → B) (k : ℕ) → ((n : ℕ) (a : A) (b : B) → n < k → R n a b → R (suc n) (f n a) (g n b))
+    → (n : ℕ) (a : A) (b : B) → n ≤ k → R 0 a b → R n (turns f n a) (turns g n b)
+unfolding turns
+turns-both R f g k h zero a b l p = p
+turns-both R f g k h (suc n) a b l p = h n (turns f n a) (turns g n b) (omega arith) (turns-both R f g k h n a b (omega arith) p)
+
+-- one test on both sides
+chosen-both : {A : Type 0} (R : A → A → Type 0) (b : Bool) {x y v w : A} → R x v → R y w → R (if b then x else y) (if b then v else w)
+chosen-both R true p q = p
+chosen-both R false p q = q
+
+-- stores at n into two lists, seen at j
+stored : {A B : Type 0} (f : A → B) (d : A) (xs ys : List A) (n j : ℕ) (v w : A) → n < length xs → n < length ys → (j ≡ n → f v ≡ f w) → f (getD xs j d) ≡ f (getD ys j d)
+    → f (getD (set xs n v) j d) ≡ f (getD (set ys n w) j d)
+stored f d xs ys n j v w l m here there =
+    elim (ℕ-discrete j n) [
+      | yes p ↦ ap (λ (k : ℕ). f (getD (set xs n v) k d)) p ∙ ap f (getD-set-same xs n v d l) ∙ here p ∙ sym (ap f (getD-set-same ys n w d m)) ∙ ap (λ (k : ℕ). f (getD (set ys n w) k d)) (sym p)
+      | no p ↦ ap f (getD-set-other xs n j v d p) ∙ there ∙ sym (ap f (getD-set-other ys n j w d p))
+    ]
+
+-- lists of eight that agree outside the set
+abbrev SameAt : {A : Type 0} → ℕ → A → List A → List A → Type 0
+SameAt a d xs ys = (j : ℕ) → j < 8 → Outside a j → getD xs j d ≡ getD ys j d
+
+same-set : {A : Type 0} (a : ℕ) (d : A) (xs ys : List A) (n : ℕ) (v w : A) → length xs ≡ 8 → length ys ≡ 8 → n < 8 → (Outside a n → v ≡ w) → SameAt a d xs ys → SameAt a d (set xs n v) (set ys n w)
+same-set a d xs ys n v w l m b h s = λ j k o. stored (λ z. z) d xs ys n j v w (omega arith) (omega arith) (λ e. h (rw e at o)) (s j k o)
+
+silence-same : (a : ℕ) (vs ws : List Voice) → length vs ≡ 8 → length ws ≡ 8 → SameAt a noVoice vs ws → SameAt a noVoice (silenceAll vs) (silenceAll ws)
+unfolding silenceAll silenceVoice
+silence-same a vs ws l m s =
+    turns-both (λ n us ts. (length us ≡ 8) × (length ts ≡ 8) × SameAt a noVoice us ts) silenceVoice silenceVoice 8
+    (λ n us ts b h. (length-set us n _ ∙ h .0, length-set ts n _ ∙ h .1, same-set a noVoice us ts n _ _ (h .0) (h .1) b (λ o. ap silenced (h .2 n b o)) (h .2)))
+    8 vs ws (omega arith) (l, m, s)
+    .2
+
+-- bytes that may be stored at m on the two sides
+record Alike (a m v w : ℕ) : Type 0 where
+  own : m % 16 < 10 → Outside a (m / 16) → v ≡ w
+  endx : m ≡ 0x7C → (j : ℕ) → j < 8 → Outside a j → bit v j ≡ bit w j
+  others : 10 ≤ m % 16 → m ≢ 0x7C → v ≡ w
+
+alike-same : (a m v : ℕ) → Alike a m v v
+alike-same a m v = record { own = λ l o. refl; endx = λ e j l o. refl; others = λ l e. refl }
+
+bytes-set : (a : ℕ) (x y : List ℕ) (m v w : ℕ) → length x ≡ 128 → length y ≡ 128 → m < 128 → Alike a m v w → SameBytes a x y → SameBytes a (set x m v) (set y m w)
+bytes-set a x y m v w l k b h s =
+    record {
+      own = λ j n lj ln o. stored (λ z. z) 0 x y m (j * 16 + n) v w (omega arith) (omega arith) (λ e. let q : j ≡ m / 16 = omega arith in h .own (omega arith) (rw q at o)) (s .own j n lj ln o);
+      endx = λ j lj o. stored (λ z. bit z j) 0 x y m 0x7C v w (omega arith) (omega arith) (λ e. h .endx (sym e) j lj o) (s .endx j lj o);
+      others = λ n ln t u. stored (λ z. z) 0 x y m n v w (omega arith) (omega arith) (λ e. h .others (omega arith) (λ z. u (e ∙ z))) (s .others n ln t u);
+    }
