@@ -12,7 +12,7 @@ use lib.Seq.{getD-set-same, getD-set-other, set-getD}
 use Rattle.numbers.specs.Choice.{if_then_else_, _<?_, _=?_}
 use Rattle.numbers.proofs.Choice.{chosen}
 use Rattle.dsp.specs.Machine.{noVoice, Parts}
-use Rattle.dsp.specs.Registers.{turns, resets, silenced, silenceVoice, silenceAll, globWrite, tapsAfter, writeParts}
+use Rattle.dsp.specs.Registers.{turns, resets, writeVoice, silenced, silenceVoice, silenceAll, globWrite, tapsAfter, writeParts}
 use Rattle.dsp.specs.Mix.{bit}
 use Rattle.dsp.specs.Lane.{putBytes, turned}
 use Rattle.dsp.specs.Tick.{Round, turn, voicesTick, sharedOf, startOf, tickOf}
@@ -116,4 +116,67 @@ bytes-set a x y m v w l k b h s =
       own = λ j n lj ln o. stored (λ z. z) 0 x y m (j * 16 + n) v w (omega arith) (omega arith) (λ e. let q : j ≡ m / 16 = omega arith in h .own (omega arith) (rw q at o)) (s .own j n lj ln o);
       endx = λ j lj o. stored (λ z. bit z j) 0 x y m 0x7C v w (omega arith) (omega arith) (λ e. h .endx (sym e) j lj o) (s .endx j lj o);
       others = λ n ln t u. stored (λ z. z) 0 x y m n v w (omega arith) (omega arith) (λ e. h .others (omega arith) (λ z. u (e ∙ z))) (s .others n ln t u);
+    }
+
+-- ---- a write
+
+-- on both sides
+both-write : (i x a : ℕ) (p q : Parts) → i < 128 → Sized p → Sized q → SameBut a p q → SameBut a (writeParts i x p) (writeParts i x q)
+unfolding writeParts
+both-write i x a p q l h k s =
+    let b : (y : ℕ) → SameBytes a (set (p .registers) i y) (set (q .registers) i y) = (λ y. bytes-set a (p .registers) (q .registers) i y y (h .registers) (k .registers) l (alike-same a i y) (s .bytes)) in
+    record {
+      bytes =
+          chosen-both (SameBytes a) (resets i x)
+          (bytes-set a (set (p .registers) i x) (set (q .registers) i x) 0x7C 0 0 (simp length-set (h .registers)) (simp length-set (k .registers)) (omega arith) (alike-same a 0x7C 0) (b x)) (b _);
+      voices =
+          chosen-both (SameAt a noVoice) (i % 16 <? 8)
+          (same-set a noVoice (p .voices) (q .voices) (i / 16) _ _ (h .voices) (k .voices) (omega arith) (λ o. ap (writeVoice (i % 16) x) (s .voices (i / 16) (omega arith) o)) (s .voices))
+          (chosen-both (SameAt a noVoice) (resets i x) (silence-same a (p .voices) (q .voices) (h .voices) (k .voices) (s .voices)) (s .voices));
+      delays = s .delays;
+      taps = ap (tapsAfter i x) (s .taps);
+      left = s .left;
+      right = s .right;
+      glob = ap (globWrite i x) (s .glob);
+    }
+
+-- a register of a voice is none of the globals
+not-global : (i k : ℕ) → i % 16 < 8 → 8 ≤ k % 16 → (i =? k) ≡ false
+not-global i k l m = ne-eqb i k (λ e. absurd (omega arith))
+
+glob-same : (i x : ℕ) (g : Glob) → i % 16 < 8 → globWrite i x g ≡ g
+glob-same i x g l =
+    let o : (k : ℕ) → 8 ≤ k % 16 → (i =? k) ≡ false = (λ k m. not-global i k l m) in
+    rw (
+      o 0x5D (omega arith),
+      o 0x0C (omega arith),
+      o 0x1C (omega arith),
+      o 0x6C (omega arith),
+      o 0x4C (omega arith),
+      o 0x3D (omega arith),
+      o 0x2D (omega arith),
+      o 0x2C (omega arith),
+      o 0x3C (omega arith),
+      o 0x0D (omega arith),
+      o 0x4D (omega arith),
+      o 0x6D (omega arith),
+      o 0x7D (omega arith)
+    )
+
+-- by a voice of the set, to its own registers, on one side
+own-write : (i x a : ℕ) (p q : Parts) → i < 128 → i % 16 < 8 → bit a (i / 16) ≡ true → Sized p → Sized q → SameBut a p q → SameBut a (writeParts i x p) q
+unfolding writeParts
+own-write i x a p q l m t h k s =
+    let inside : Outside a (i / 16) → ⊥ = (λ o. true≢false (sym t ∙ o)) in
+    let b = bytes-set a (p .registers) (q .registers) i x (getD (q .registers) i 0) (h .registers) (k .registers) l (record { own = λ n o. absurd (inside o); endx = λ e. absurd (omega arith); others = λ n e. absurd (omega arith) }) (s .bytes) in
+    let y = writeVoice (i % 16) x (getD (p .voices) (i / 16) noVoice) in
+    let v = same-set a noVoice (p .voices) (q .voices) (i / 16) y (getD (q .voices) (i / 16) noVoice) (h .voices) (k .voices) (omega arith) (λ o. absurd (inside o)) (s .voices) in
+    record {
+      bytes = rw (not-global i 0x6C m (omega arith), not-global i 0x7C m (omega arith)) (subst (SameBytes a (set (p .registers) i x)) (set-getD (q .registers) i 0) b);
+      voices = rw (lt-ltb _ _ m) (subst (SameAt a noVoice (set (p .voices) (i / 16) y)) (set-getD (q .voices) (i / 16) noVoice) v);
+      delays = s .delays;
+      taps = rw (ne-eqb (i % 16) 15 (omega arith)) (s .taps);
+      left = s .left;
+      right = s .right;
+      glob = glob-same i x (p .glob) m ∙ s .glob;
     }
