@@ -7,6 +7,7 @@ use Prim.Native.Nat.{ℕ, zero, suc, _+_, _*_, _/_, _%_, _≤_, _<_}
 use native.Mathlib.Omega.{arith}
 use native.Mathlib.Decide.{ℕ-discrete}
 use borrow.Author.Tests.{ne-eqb, lt-ltb}
+use lib.IntN.{ℤ}
 use lib.ListN.{getD, set, length, length-set}
 use lib.Seq.{getD-set-same, getD-set-other, set-getD}
 use Rattle.numbers.specs.Choice.{if_then_else_, _<?_, _=?_}
@@ -14,17 +15,24 @@ use Rattle.numbers.proofs.Choice.{chosen}
 use Rattle.dsp.specs.Machine.{noVoice, Parts}
 use Rattle.dsp.specs.Registers.{turns, resets, writeVoice, silenced, silenceVoice, silenceAll, globWrite, tapsAfter, writeParts}
 use Rattle.dsp.specs.Mix.{bit}
-use Rattle.dsp.specs.Lane.{putBytes, turned}
+use Rattle.dsp.specs.Sheet.{laneAt}
+use Rattle.dsp.specs.Lane.{settingsOf, delayOf, waited, sourceOf, polledOf, waitedOf, cellAfter, cellOf, putBytes, ownCell, turned}
 use Rattle.dsp.specs.Tick.{Round, turn, voicesTick, sharedOf, startOf, tickOf}
 use Rattle.dsp.specs.declared.voice.Voice.{Voice}
+use Rattle.dsp.specs.declared.play.Source.the-variants.{Unmodulated, From}
 use Rattle.dsp.specs.declared.lane.Shared.{Shared}
 use Rattle.dsp.specs.declared.registers.Glob.{Glob}
 use Rattle.dsp.specs.declared.tick.Work.{Work}
 use Rattle.dsp.proofs.Turns.{turns-keep}
 use Rattle.dsp.proofs.Tests.{lt, _and_}
+use Rattle.dsp.proofs.Batches.{lane-part}
+use Rattle.rework.specs.declared.modes.Modes.{Modes}
 use Rattle.rework.specs.Alike.{named}
+use Rattle.rework.specs.Members.{modesAfter, joinedBy}
 use Rattle.rework.specs.Differ.{Outside, SameBytes, SameBut}
-use Rattle.rework.proofs.Bits.{itself}
+use Rattle.rework.proofs.Bits.{itself, joined-more}
+use Rattle.rework.proofs.Lanes.{lane-last}
+use Rattle.rework.proofs.Tape.{Beat, put, tick, ask, joins, SameLanes, Rows, none, more}
 
 -- ---- lengths
 
@@ -180,3 +188,78 @@ own-write i x a p q l m t h k s =
       right = s .right;
       glob = glob-same i x (p .glob) m ∙ s .glob;
     }
+
+-- ---- a greater set
+
+abbrev pub Within : ℕ → ℕ → Type 0
+Within a b = (j : ℕ) → j < 8 → bit a j ≡ true → bit b j ≡ true
+
+pub outside-mono : (a b : ℕ) → Within a b → (j : ℕ) → j < 8 → Outside b j → Outside a j
+outside-mono a b h j l o = go (bit a j) refl
+  where
+    go : (t : Bool) → bit a j ≡ t → Outside a j
+    go true e = absurd (true≢false (sym (h j l e) ∙ o))
+    go false e = e
+
+pub same-mono : (a b : ℕ) (p q : Parts) → Within a b → SameBut a p q → SameBut b p q
+same-mono a b p q h s =
+    let o = outside-mono a b h in
+    record {
+      bytes =
+          record {
+            own = λ j k l m n. s .bytes .own j k l m (o j l n);
+            endx = λ j l n. s .bytes .endx j l (o j l n);
+            others = s .bytes .others;
+          };
+      voices = λ j l n. s .voices j l (o j l n);
+      delays = λ j l n. s .delays j l (o j l n);
+      taps = s .taps;
+      left = s .left;
+      right = s .right;
+      glob = s .glob;
+    }
+
+pub lanes-mono : (a b : ℕ) (x y : List ℕ) → Within a b → SameLanes a x y → SameLanes b x y
+lanes-mono a b x y h s = λ j l o. s j l (λ k. outside-mono a b h j k (o k))
+
+pub rows-mono : (a b : ℕ) {xs ys : List (List ℕ)} → Within a b → Rows a xs ys → Rows b xs ys
+rows-mono a b h none = none
+rows-mono a b h (more {x = x} {y = y} s r) = more (lanes-mono a b x y h s) (rows-mono a b h r)
+
+pub joins-more : (bs : List Beat) (m : Modes) (a : ℕ) → Within a (joins bs m a)
+unfolding joins
+joins-more [] m a j l h = h
+joins-more (put i x ∷ bs) m a j l h = joins-more bs (modesAfter i x m) a j l h
+joins-more (tick ∷ bs) m a j l h = joins-more bs m (joinedBy (m .pmon) a) j l (joined-more (m .pmon) a j l h)
+joins-more (ask r ∷ bs) m a j l h = joins-more bs m a j l h
+
+-- ---- a turn
+
+-- the pitch source does not see what the voice before gave where PMON does not select it
+source-same : (pmon j : ℕ) (x y : ℤ) → (bit pmon j ≡ true → x ≡ y) → sourceOf pmon j x ≡ sourceOf pmon j y
+unfolding sourceOf
+source-same pmon j x y h = go (bit pmon j) refl
+  where
+    go : (t : Bool) → bit pmon j ≡ t → (if t then From x else Unmodulated) ≡ (if t then From y else Unmodulated)
+    go true e = ap From (h e)
+    go false e = refl
+
+-- a cell is what its source, its voice, its delay, two bytes of its own and its ENDX bit make it
+cell-same : (c : Shared) (ram : List ℕ) (j : ℕ) (x y : ℤ) (v w : Voice) (d e : ℕ) (b k : List ℕ) → sourceOf (c .pmon) j x ≡ sourceOf (c .pmon) j y → v ≡ w → d ≡ e
+    → getD b (j * 16 + 4) 0 ≡ getD k (j * 16 + 4) 0 → getD b (j * 16 + 8) 0 ≡ getD k (j * 16 + 8) 0 → bit (getD b 0x7C 0) j ≡ bit (getD k 0x7C 0) j
+    → ownCell c ram j x v d b ≡ ownCell c ram j y w e k
+unfolding ownCell cellOf waitedOf
+cell-same c ram j x y v w d e b k es ev ed e4 e8 ex =
+    λ i.
+    cellAfter c j (ev i)
+    (waited ram (c .dir) (e4 i) (settingsOf (ev i)) (ev i .pitch) (es i) (e8 i) (delayOf (bit (c .kon) j) (ed i))
+    (record { play = polledOf c j (ev i) (ex i); samples = ev i .brr .«sample_buffer» }))
+
+-- a lane put behind n others
+lanes-more : (O : ℕ → Type 0) (n : ℕ) (x y u v : List ℕ) → length x ≡ n * 4 → length y ≡ n * 4 → length u ≡ 4 → length v ≡ 4 → (O n → u ≡ v)
+    → ((j : ℕ) → j < n → O j → laneAt j x ≡ laneAt j y) → (j : ℕ) → j < suc n → O j → laneAt j (x ++ u) ≡ laneAt j (y ++ v)
+lanes-more O n x y u v lx ly lu lv e h j l o =
+    elim (ℕ-discrete j n) [
+      | yes p ↦ rw p (lane-last n x u lx lu ∙ e (subst O p o) ∙ sym (lane-last n y v ly lv))
+      | no p ↦ lane-part j x u (omega arith) ∙ h j (omega arith) o ∙ sym (lane-part j y v (omega arith))
+    ]
