@@ -8,16 +8,18 @@ use native.Mathlib.Omega.{arith}
 use native.Mathlib.Decide.{ℕ-discrete}
 use borrow.Author.Tests.{ne-eqb, lt-ltb}
 use lib.IntN.{ℤ}
-use lib.ListN.{getD, set, length, length-set}
+use lib.ListN.{getD, set, length, length-set, length-append}
 use lib.Seq.{getD-set-same, getD-set-other, set-getD}
 use Rattle.numbers.specs.Choice.{if_then_else_, _<?_, _=?_}
+use Rattle.numbers.specs.Signed.{highZ}
 use Rattle.numbers.proofs.Choice.{chosen}
+use Rattle.sound.specs.Sound.{even}
 use Rattle.dsp.specs.Machine.{noVoice, Parts}
 use Rattle.dsp.specs.Registers.{turns, resets, writeVoice, silenced, silenceVoice, silenceAll, globWrite, tapsAfter, writeParts}
 use Rattle.dsp.specs.Mix.{bit}
-use Rattle.dsp.specs.Sheet.{laneAt}
-use Rattle.dsp.specs.Lane.{settingsOf, delayOf, waited, sourceOf, polledOf, waitedOf, cellAfter, cellOf, putBytes, ownCell, turned}
-use Rattle.dsp.specs.Tick.{Round, turn, voicesTick, sharedOf, startOf, tickOf}
+use Rattle.dsp.specs.Sheet.{laneBytes, laneAt}
+use Rattle.dsp.specs.Lane.{settingsOf, delayOf, waited, sourceOf, Cell, polledOf, waitedOf, cellAfter, cellOf, withBit, putBytes, added, landed, ownCell, turned}
+use Rattle.dsp.specs.Tick.{Round, landing, turn, voicesTick, sharedOf, startOf, tickOf}
 use Rattle.dsp.specs.declared.voice.Voice.{Voice}
 use Rattle.dsp.specs.declared.play.Source.the-variants.{Unmodulated, From}
 use Rattle.dsp.specs.declared.lane.Shared.{Shared}
@@ -30,7 +32,7 @@ use Rattle.rework.specs.declared.modes.Modes.{Modes}
 use Rattle.rework.specs.Alike.{named}
 use Rattle.rework.specs.Members.{modesAfter, joinedBy}
 use Rattle.rework.specs.Differ.{Outside, SameBytes, SameBut}
-use Rattle.rework.proofs.Bits.{itself, joined-more}
+use Rattle.rework.proofs.Bits.{itself, full8, bit-here, bit-there, joined-more}
 use Rattle.rework.proofs.Lanes.{lane-last}
 use Rattle.rework.proofs.Tape.{Beat, put, tick, ask, joins, SameLanes, Rows, none, more}
 
@@ -263,3 +265,105 @@ lanes-more O n x y u v lx ly lu lv e h j l o =
       | yes p ↦ rw p (lane-last n x u lx lu ∙ e (subst O p o) ∙ sym (lane-last n y v ly lv))
       | no p ↦ lane-part j x u (omega arith) ∙ h j (omega arith) o ∙ sym (lane-part j y v (omega arith))
     ]
+
+own-alike : (a j k v w : ℕ) → k < 10 → (Outside a j → v ≡ w) → Alike a (j * 16 + k) v w
+own-alike a j k v w l h =
+    let e : (j * 16 + k) / 16 ≡ j = omega arith in
+    record { own = λ m o. h (rw e at o); endx = λ f. absurd (omega arith); others = λ m f. absurd (omega arith) }
+
+-- what a turn leaves in the bytes
+put-same : (a j : ℕ) (x y : Cell) (b k : List ℕ) → j < 8 → length b ≡ 128 → length k ≡ 128 → (Outside a j → x ≡ y) → SameBytes a b k
+    → SameBytes a (putBytes j (x .envx) (x .out) (x .endx) b) (putBytes j (y .envx) (y .out) (y .endx) k)
+unfolding putBytes
+put-same a j x y b k l lb lk e s =
+    let b₁ = set b (j * 16 + 8) (x .envx) in
+    let k₁ = set k (j * 16 + 8) (y .envx) in
+    let b₂ = set b₁ (j * 16 + 9) (highZ (x .out)) in
+    let k₂ = set k₁ (j * 16 + 9) (highZ (y .out)) in
+    let l₁ : length b₁ ≡ 128 = simp length-set lb in
+    let m₁ : length k₁ ≡ 128 = simp length-set lk in
+    let s₁ = bytes-set a b k (j * 16 + 8) (x .envx) (y .envx) lb lk (omega arith) (own-alike a j 8 (x .envx) (y .envx) (omega arith) (λ o. ap (λ (z : Cell). z .envx) (e o))) s in
+    let s₂ = bytes-set a b₁ k₁ (j * 16 + 9) (highZ (x .out)) (highZ (y .out)) l₁ m₁ (omega arith) (own-alike a j 9 (highZ (x .out)) (highZ (y .out)) (omega arith) (λ o. ap (λ (z : Cell). highZ (z .out)) (e o))) s₁ in
+    let v = getD b₂ 0x7C 0 in
+    let w = getD k₂ 0x7C 0 in
+    let at : (i : ℕ) → i < 8 → Outside a i → bit (withBit v j (x .endx)) i ≡ bit (withBit w j (y .endx)) i =
+    (λ i m o.
+    elim (ℕ-discrete i j) [
+      | yes p ↦ rw p (bit-here v j (x .endx) l ∙ ap (λ (z : Cell). z .endx) (e (rw p at o)) ∙ sym (bit-here w j (y .endx) l))
+      | no p ↦ bit-there v j i (x .endx) l m p ∙ s₂ .endx i m o ∙ sym (bit-there w j i (y .endx) l m p)
+    ]) in
+    bytes-set a b₂ k₂ 0x7C (withBit v j (x .endx)) (withBit w j (y .endx)) (simp length-set lb) (simp length-set lk) (omega arith)
+    (record { own = λ m. absurd (omega arith); endx = λ f. at; others = λ m f. absurd (f refl) }) s₂
+
+-- two rounds before voice n, that agree outside the set
+record Beside (a : ℕ) (c : Shared) (p q : Parts) (n : ℕ) (r s : Round) : Type 0 where
+  one : Sized (amid p r)
+  two : Sized (amid q s)
+  same : SameBut a (amid p r) (amid q s)
+  row : length (r .row) ≡ n * 4
+  rows : length (s .row) ≡ n * 4
+  lanes : (j : ℕ) → j < n → Outside a j → laneAt j (r .row) ≡ laneAt j (s .row)
+  prev : n < 8 → Outside a n → bit (c .pmon) n ≡ true → r .acc .prev ≡ s .acc .prev
+
+-- a voice behind one of the set is of the set where PMON selects it
+abbrev Closed : ℕ → ℕ → Type 0
+Closed a pmon = (j : ℕ) → j < 7 → bit a j ≡ true → bit pmon (suc j) ≡ true → bit a (suc j) ≡ true
+
+before : (a pmon n : ℕ) → Closed a pmon → n < 7 → Outside a (suc n) → bit pmon (suc n) ≡ true → Outside a n
+before a pmon n h l o e = go (bit a n) refl
+  where
+    go : (t : Bool) → bit a n ≡ t → Outside a n
+    go true f = absurd (true≢false (sym (h n l f e) ∙ o))
+    go false f = f
+
+-- the round after voice n's turn, that came to x
+abbrev landing-own : Shared → ℕ → Round → Cell → Round
+landing-own c n r x = landing n r (landed true c n (r .acc) (r .bytes) [] x)
+
+beside-cells : (a : ℕ) (c : Shared) (p q : Parts) (n : ℕ) (r s : Round) (x y : Cell) → n < 8 → Closed a (c .pmon) → (Outside a n → x ≡ y)
+    → Beside a c p q n r s → Sized (amid p (landing-own c n r x)) → Sized (amid q (landing-own c n s y)) → Beside a c p q (suc n) (landing-own c n r x) (landing-own c n s y)
+unfolding added laneBytes
+beside-cells a c p q n r s x y l h e b lx ly =
+    let i = b .same in
+    record {
+      one = lx;
+      two = ly;
+      same =
+          record {
+            bytes = put-same a n x y (r .bytes) (s .bytes) l (b .one .registers) (b .two .registers) e (i .bytes);
+            voices = same-set a noVoice (r .voices) (s .voices) n (x .voice) (y .voice) (b .one .voices) (b .two .voices) l (λ o. ap (λ (z : Cell). z .voice) (e o)) (i .voices);
+            delays = same-set a 0 (r .delays) (s .delays) n (x .delay) (y .delay) (b .one .delays) (b .two .delays) l (λ o. ap (λ (z : Cell). z .delay) (e o)) (i .delays);
+            taps = i .taps;
+            left = i .left;
+            right = i .right;
+            glob = i .glob;
+          };
+      row = length-append (r .row) (laneBytes (x .out) (x .envx) (x .endx)) ∙ omega (arith, b .row);
+      rows = length-append (s .row) (laneBytes (y .out) (y .envx) (y .endx)) ∙ omega (arith, b .rows);
+      lanes =
+          lanes-more (Outside a) n (r .row) (s .row) (laneBytes (x .out) (x .envx) (x .endx)) (laneBytes (y .out) (y .envx) (y .endx)) (b .row) (b .rows) refl refl
+          (λ o. ap (λ (z : Cell). laneBytes (z .out) (z .envx) (z .endx)) (e o)) (b .lanes);
+      prev = λ m o t. ap (λ (z : Cell). even (z .out)) (e (before a (c .pmon) n h (omega arith) o t));
+    }
+
+-- the cell of voice n in a round
+abbrev cellIn : Shared → List ℕ → ℕ → Round → Cell
+cellIn c ram n r = ownCell c ram n (r .acc .prev) (getD (r .voices) n noVoice) (getD (r .delays) n 0) (r .bytes)
+
+turn-own : (old : List ℕ) (c : Shared) (ram : List ℕ) (n : ℕ) (r : Round) → n < 8 → turn 0xFF old c ram n r ≡ landing-own c n r (cellIn c ram n r)
+unfolding turn turned
+turn-own old c ram n r l = rw (full8 n l)
+
+beside-turn : (a : ℕ) (c : Shared) (ram o₁ o₂ : List ℕ) (p q : Parts) (n : ℕ) (r s : Round) → n < 8 → Closed a (c .pmon) → Beside a c p q n r s
+    → Beside a c p q (suc n) (turn 0xFF o₁ c ram n r) (turn 0xFF o₂ c ram n s)
+beside-turn a c ram o₁ o₂ p q n r s l h b =
+    let e = turn-own o₁ c ram n r l in
+    let f = turn-own o₂ c ram n s l in
+    let i = b .same in
+    let g : Outside a n → cellIn c ram n r ≡ cellIn c ram n s =
+    (λ o.
+    cell-same c ram n (r .acc .prev) (s .acc .prev) (getD (r .voices) n noVoice) (getD (s .voices) n noVoice) (getD (r .delays) n 0) (getD (s .delays) n 0) (r .bytes) (s .bytes)
+    (source-same (c .pmon) n (r .acc .prev) (s .acc .prev) (b .prev l o)) (i .voices n l o) (i .delays n l o) (i .bytes .own n 4 l (omega arith) o) (i .bytes .own n 8 l (omega arith) o) (i .bytes .endx n l o)) in
+    let z = beside-cells a c p q n r s (cellIn c ram n r) (cellIn c ram n s) l h g b
+    (subst (λ (t : Round). Sized (amid p t)) e (sized-turn 0xFF o₁ c ram p n r (b .one))) (subst (λ (t : Round). Sized (amid q t)) f (sized-turn 0xFF o₂ c ram q n s (b .two))) in
+    subst (Beside a c p q (suc n) (turn 0xFF o₁ c ram n r)) (sym f) (subst (λ (t : Round). Beside a c p q (suc n) t (landing-own c n s (cellIn c ram n s))) (sym e) z)
