@@ -16,13 +16,16 @@ use Rattle.numbers.proofs.Choice.{chosen}
 use Rattle.sound.specs.Sound.{even}
 use Rattle.dsp.specs.Machine.{noVoice, Parts}
 use Rattle.dsp.specs.Registers.{turns, resets, writeVoice, silenced, silenceVoice, silenceAll, globWrite, tapsAfter, writeParts}
+use Rattle.dsp.specs.Noise.{noiseTick}
 use Rattle.dsp.specs.Mix.{bit}
-use Rattle.dsp.specs.Sheet.{laneBytes, laneAt}
+use Rattle.dsp.specs.Sheet.{pairBytes, laneBytes, laneAt}
 use Rattle.dsp.specs.Lane.{settingsOf, delayOf, waited, sourceOf, Cell, polledOf, waitedOf, cellAfter, cellOf, withBit, putBytes, added, landed, ownCell, turned}
-use Rattle.dsp.specs.Tick.{Round, landing, turn, voicesTick, sharedOf, startOf, tickOf}
+use Rattle.dsp.specs.Echo.{Echo, EchoLane, echoWritten, echoMoved, echoTick, echoLane}
+use Rattle.dsp.specs.Tick.{Round, landing, turn, voicesTick, globTick, sharedFrom, sharedOf, everything, startOf, Ticked, tickOf}
 use Rattle.dsp.specs.declared.voice.Voice.{Voice}
 use Rattle.dsp.specs.declared.play.Source.the-variants.{Unmodulated, From}
 use Rattle.dsp.specs.declared.lane.Shared.{Shared}
+use Rattle.dsp.specs.declared.mix.Stereo.{Stereo}
 use Rattle.dsp.specs.declared.registers.Glob.{Glob}
 use Rattle.dsp.specs.declared.tick.Work.{Work}
 use Rattle.dsp.proofs.Turns.{turns-keep}
@@ -34,7 +37,7 @@ use Rattle.rework.specs.Members.{modesAfter, joinedBy}
 use Rattle.rework.specs.Differ.{Outside, SameBytes, SameBut}
 use Rattle.rework.proofs.Bits.{itself, full8, bit-here, bit-there, joined-more}
 use Rattle.rework.proofs.Lanes.{lane-last}
-use Rattle.rework.proofs.Tape.{Beat, put, tick, ask, joins, SameLanes, Rows, none, more}
+use Rattle.rework.proofs.Tape.{Beat, put, tick, ask, modesIn, joins, SameLanes, Rows, none, more}
 
 -- ---- lengths
 
@@ -367,3 +370,68 @@ beside-turn a c ram o₁ o₂ p q n r s l h b =
     let z = beside-cells a c p q n r s (cellIn c ram n r) (cellIn c ram n s) l h g b
     (subst (λ (t : Round). Sized (amid p t)) e (sized-turn 0xFF o₁ c ram p n r (b .one))) (subst (λ (t : Round). Sized (amid q t)) f (sized-turn 0xFF o₂ c ram q n s (b .two))) in
     subst (Beside a c p q (suc n) (turn 0xFF o₁ c ram n r)) (sym f) (subst (λ (t : Round). Beside a c p q (suc n) t (landing-own c n s (cellIn c ram n s))) (sym e) z)
+
+-- ---- a tick
+
+-- FLG bit 5 keeps RAM
+ram-kept : (w : Work) (old : List ℕ) (p : Parts) (ram : List ℕ) → bit (p .glob .flg) 5 ≡ true → tickOf w old p ram .ram ≡ ram
+unfolding tickOf echoLane echoTick echoWritten globTick
+ram-kept w old p ram e = chosen (λ (x : EchoLane). x .echo .ram ≡ ram) (w .echo) (rw e) refl
+
+-- and a tick keeps what decides
+modes-kept : (old : List ℕ) (p : Parts) (ram : List ℕ) → modesIn (tickOf everything old p ram .parts .glob) ≡ modesIn (p .glob)
+unfolding tickOf echoLane echoTick echoMoved globTick
+modes-kept old p ram = refl
+
+-- what all voices see
+shared-same : (a : ℕ) (p q : Parts) → SameBut a p q → sharedOf (p .glob) (p .registers) ≡ sharedOf (q .glob) (q .registers)
+shared-same a p q s =
+    let koff = s .bytes .others 0x5C (omega arith) (omega arith) (omega arith) in
+    let dir = s .bytes .others 0x5D (omega arith) (omega arith) (omega arith) in
+    λ i. sharedFrom (s .glob i) (noiseTick (s .glob i .flg) (s .glob i .noise)) (koff i) (dir i)
+
+-- the echo's record does not see what the voices put into it
+abbrev echoIn : Parts → List ℕ → Stereo → Echo
+echoIn p ram input = echoTick (globTick (p .glob)) (p .taps) (p .left) (p .right) ram input
+
+echo-same : (a : ℕ) (p q : Parts) (ram : List ℕ) (x y : Stereo) → SameBut a p q
+    → (echoIn p ram x .glob ≡ echoIn q ram y .glob) × (echoIn p ram x .left ≡ echoIn q ram y .left) × (echoIn p ram x .right ≡ echoIn q ram y .right)
+unfolding echoTick
+echo-same a p q ram x y s =
+    (λ i. echoTick (globTick (s .glob i)) (s .taps i) (s .left i) (s .right i) ram x .glob,
+    λ i. echoTick (globTick (s .glob i)) (s .taps i) (s .left i) (s .right i) ram x .left,
+    λ i. echoTick (globTick (s .glob i)) (s .taps i) (s .left i) (s .right i) ram x .right)
+
+record Alongside (a : ℕ) (t u : Ticked) : Type 0 where
+  parts : SameBut a (t .parts) (u .parts)
+  lanes : SameLanes a (t .row) (u .row)
+
+tick-same : (a : ℕ) (o₁ o₂ : List ℕ) (p q : Parts) (ram : List ℕ) → Sized p → Sized q → Closed a (p .glob .pmon) → SameBut a p q
+    → Alongside a (tickOf everything o₁ p ram) (tickOf everything o₂ q ram)
+unfolding tickOf voicesTick sharedFrom echoLane pairBytes
+tick-same a o₁ o₂ p q ram h k l s =
+    let c = sharedOf (p .glob) (p .registers) in
+    let d = sharedOf (q .glob) (q .registers) in
+    let r = turns (turn 0xFF o₁ c ram) 8 (startOf p) in
+    let t = turns (turn 0xFF o₂ d ram) 8 (startOf q) in
+    let b : Beside a c p q 8 r t =
+    subst (λ (z : Shared). Beside a c p q 8 r (turns (turn 0xFF o₂ z ram) 8 (startOf q))) (shared-same a p q s)
+    (turns-both (Beside a c p q) (turn 0xFF o₁ c ram) (turn 0xFF o₂ c ram) 8 (λ n r t m x. beside-turn a c ram o₁ o₂ p q n r t m l x) 8 (startOf p) (startOf q) (omega arith)
+    (record { one = h; two = k; same = s; row = refl; rows = refl; lanes = λ j m. absurd (omega arith); prev = λ m o t. refl })) in
+    let e = echo-same a p q ram (r .acc .input) (t .acc .input) s in
+    let slot : Glob → List ℕ = (λ g. pairBytes (g .«echo_out_l») (g .«echo_out_r»)) in
+    record {
+      parts =
+          record {
+            bytes = b .same .bytes;
+            voices = b .same .voices;
+            delays = b .same .delays;
+            taps = s .taps;
+            left = e .1;
+            right = e .2;
+            glob = e .0;
+          };
+      lanes =
+          lanes-more (λ (j : ℕ). j < 8 → Outside a j) 8 (r .row) (t .row) (slot (echoIn p ram (r .acc .input) .glob)) (slot (echoIn q ram (t .acc .input) .glob)) (b .row) (b .rows) refl refl
+          (λ o. ap slot (e .0)) (λ j m o. b .lanes j m (o m));
+    }
