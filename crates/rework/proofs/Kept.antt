@@ -6,13 +6,14 @@ use mathlib.Core.Path.{_≡_, refl, sym, ap, subst, _∙_}
 use Prim.Native.Nat.{ℕ, zero, suc, _+_, _*_, _/_, _%_, _≤_, _<_}
 use native.Mathlib.Omega.{arith}
 use native.Mathlib.Decide.{ℕ-discrete}
+use native.Mathlib.Numerals.{add-one}
 use borrow.Author.Tests.{ne-eqb, lt-ltb}
 use lib.IntN.{ℤ}
-use lib.ListN.{getD, set, length, length-set, length-append}
+use lib.ListN.{getD, set, drop, length, length-set, length-append}
 use lib.Seq.{getD-set-same, getD-set-other, set-getD}
 use Rattle.numbers.specs.Choice.{if_then_else_, _<?_, _=?_}
 use Rattle.numbers.specs.Signed.{highZ}
-use Rattle.numbers.proofs.Choice.{chosen}
+use Rattle.numbers.proofs.Choice.{tested, chosen}
 use Rattle.sound.specs.Sound.{even}
 use Rattle.dsp.specs.Machine.{noVoice, Parts}
 use Rattle.dsp.specs.Registers.{turns, resets, writeVoice, silenced, silenceVoice, silenceAll, globWrite, tapsAfter, writeParts}
@@ -35,9 +36,9 @@ use Rattle.rework.specs.declared.modes.Modes.{Modes}
 use Rattle.rework.specs.Alike.{named}
 use Rattle.rework.specs.Members.{modesAfter, joinedBy}
 use Rattle.rework.specs.Differ.{Outside, SameBytes, SameBut}
-use Rattle.rework.proofs.Bits.{itself, full8, bit-here, bit-there, joined-more}
+use Rattle.rework.proofs.Bits.{itself, full8, bit-here, bit-there, joined-more, joined-closed}
 use Rattle.rework.proofs.Lanes.{lane-last}
-use Rattle.rework.proofs.Tape.{Beat, put, tick, ask, modesIn, joins, SameLanes, Rows, none, more}
+use Rattle.rework.proofs.Tape.{Beat, put, tick, ask, Small, keep, modesIn, Quiet, joins, behindTick, tape, SameLanes, Rows, none, more, Kept}
 
 -- ---- lengths
 
@@ -173,7 +174,7 @@ glob-same i x g l =
       o 0x0D (omega arith),
       o 0x4D (omega arith),
       o 0x6D (omega arith),
-      o 0x7D (omega arith)
+      o 0x7D (omega arith),
     )
 
 -- by a voice of the set, to its own registers, on one side
@@ -397,10 +398,11 @@ echoIn p ram input = echoTick (globTick (p .glob)) (p .taps) (p .left) (p .right
 echo-same : (a : ℕ) (p q : Parts) (ram : List ℕ) (x y : Stereo) → SameBut a p q
     → (echoIn p ram x .glob ≡ echoIn q ram y .glob) × (echoIn p ram x .left ≡ echoIn q ram y .left) × (echoIn p ram x .right ≡ echoIn q ram y .right)
 unfolding echoTick
-echo-same a p q ram x y s =
-    (λ i. echoTick (globTick (s .glob i)) (s .taps i) (s .left i) (s .right i) ram x .glob,
-    λ i. echoTick (globTick (s .glob i)) (s .taps i) (s .left i) (s .right i) ram x .left,
-    λ i. echoTick (globTick (s .glob i)) (s .taps i) (s .left i) (s .right i) ram x .right)
+echo-same a p q ram x y s = (
+  λ i. echoTick (globTick (s .glob i)) (s .taps i) (s .left i) (s .right i) ram x .glob,
+  λ i. echoTick (globTick (s .glob i)) (s .taps i) (s .left i) (s .right i) ram x .left,
+  λ i. echoTick (globTick (s .glob i)) (s .taps i) (s .left i) (s .right i) ram x .right,
+)
 
 record Alongside (a : ℕ) (t u : Ticked) : Type 0 where
   parts : SameBut a (t .parts) (u .parts)
@@ -435,3 +437,47 @@ tick-same a o₁ o₂ p q ram h k l s =
           lanes-more (λ (j : ℕ). j < 8 → Outside a j) 8 (r .row) (t .row) (slot (echoIn p ram (r .acc .input) .glob)) (slot (echoIn q ram (t .acc .input) .glob)) (b .row) (b .rows) refl refl
           (λ o. ap slot (e .0)) (λ j m o. b .lanes j m (o m));
     }
+
+closed-joined : (pmon a : ℕ) → Closed (joinedBy pmon a) pmon
+closed-joined pmon a j l h e = rw (← add-one j) (joined-closed pmon a j l h (rw (add-one j) e))
+
+-- ---- a run
+
+-- a tick in front of two runs
+kept-behind : (b : ℕ) (bs cs : List Beat) (o₁ o₂ ram : List ℕ) (t u : Ticked) → t .ram ≡ ram → u .ram ≡ ram → SameLanes b (t .row) (u .row)
+    → Kept b ram (tape everything bs o₁ (t .parts) ram) (tape everything cs o₂ (u .parts) ram)
+    → Kept b ram (behindTick t (tape everything bs o₁ (t .parts) (t .ram))) (behindTick u (tape everything cs o₂ (u .parts) (u .ram)))
+kept-behind b bs cs o₁ o₂ ram t u e f l k =
+    let z =
+    subst (λ (x : List ℕ). Kept b ram (tape everything bs o₁ (t .parts) (t .ram)) (tape everything cs o₂ (u .parts) x)) (sym f)
+    (subst (λ (x : List ℕ). Kept b ram (tape everything bs o₁ (t .parts) x) (tape everything cs o₂ (u .parts) ram)) (sym e) k) in
+    record { parts = z .parts; rows = more l (z .rows); left = z .left; right = z .right }
+
+pub kept : (s : ℕ) (bs : List Beat) (a : ℕ) (o₁ o₂ : List ℕ) (p q : Parts) (ram : List ℕ) → Small bs → Sized p → Sized q
+    → ((j : ℕ) → j < 8 → bit s j ≡ true → bit a j ≡ true) → SameBut a p q → Quiet bs (modesIn (p .glob))
+    → Kept (joins bs (modesIn (p .glob)) a) ram (tape everything bs o₁ p ram) (tape everything (keep s bs) o₂ q ram)
+unfolding Small keep Quiet joins tape writeParts
+kept s [] a o₁ o₂ p q ram m h k w e t = record { parts = e; rows = none; left = refl; right = refl }
+kept s (put i x ∷ bs) a o₁ o₂ p q ram m h k w e t =
+    let b = joins bs (modesAfter i x (modesIn (p .glob))) a in
+    let p₁ = writeParts i x p in
+    let q₁ = writeParts i x q in
+    tested (λ (cs : List Beat). Kept b ram (tape everything bs o₁ p₁ ram) (tape everything cs o₂ q ram)) (named s i)
+    (λ n.
+    let f = (lt (i % 16) 8 and itself (bit s (i / 16))) .sound n in
+    kept s bs a o₁ o₂ p₁ q ram (m .2) (sized-write i x p h) k w (own-write i x a p q (m .0) (f .0) (w (i / 16) (omega (arith, m .0)) (f .1)) h k e) t)
+    (λ n. kept s bs a o₁ o₂ p₁ q₁ ram (m .2) (sized-write i x p h) (sized-write i x q k) w (both-write i x a p q (m .0) h k e) t)
+kept s (tick ∷ bs) a o₁ o₂ p q ram m h k w e t =
+    let pmon = p .glob .pmon in
+    let b = joinedBy pmon a in
+    let x = tickOf everything o₁ p ram in
+    let y = tickOf everything o₂ q ram in
+    let z = tick-same b o₁ o₂ p q ram h k (closed-joined pmon a) (same-mono a b p q (joined-more pmon a) e) in
+    let c = joins bs (modesIn (p .glob)) b in
+    kept-behind c bs (keep s bs) (drop 36 o₁) (drop 36 o₂) ram x y (ram-kept everything o₁ p ram (t .0)) (ram-kept everything o₂ q ram (rw (← (e .glob)) (t .0)))
+    (lanes-mono b c (x .row) (y .row) (joins-more bs (modesIn (p .glob)) b) (z .lanes))
+    (subst (λ (n : Modes). Quiet bs n → Kept (joins bs n b) ram (tape everything bs (drop 36 o₁) (x .parts) ram) (tape everything (keep s bs) (drop 36 o₂) (y .parts) ram)) (modes-kept o₁ p ram)
+    (kept s bs b (drop 36 o₁) (drop 36 o₂) (x .parts) (y .parts) ram m (sized-tick everything o₁ p ram h) (sized-tick everything o₂ q ram k) (λ j l n. joined-more pmon a j l (w j l n)) (z .parts)) (t .1))
+kept s (ask r ∷ bs) a o₁ o₂ p q ram m h k w e t =
+    let z = kept s bs a o₁ o₂ p q ram m h k w e t in
+    record { parts = z .parts; rows = z .rows; left = z .left; right = z .right }
