@@ -10,6 +10,7 @@ use native.Mathlib.Numerals.{one-add}
 use native.Mathlib.Decide.{ℕ-discrete}
 use borrow.Author.Tests.{eqb-true, eqb-false, eq-eqb, ne-eqb}
 use lib.Bits.{bitAnd, bitOr, and-shr, or-shr, and-step, or-step, and-le-l, or-lt}
+use lib.Count.{ones, ones-step}
 use lib.Pow.{pow-lt, shr-shr}
 use Rattle.numbers.specs.Choice.{if_then_else_, _=?_}
 use Rattle.numbers.proofs.Choice.{tested, chosen}
@@ -18,7 +19,7 @@ use Rattle.dsp.specs.Registers.{turns}
 use Rattle.dsp.specs.Lane.{withBit}
 use Rattle.dsp.proofs.Tests.{Decides, _and_}
 use Rattle.dsp.proofs.Turns.{turns-keep}
-use Rattle.rework.specs.Members.{joinAfter, joinedBy}
+use Rattle.rework.specs.Members.{joinAfter, joinedBy, counted, voicesIn}
 
 -- ---- digits
 
@@ -40,7 +41,7 @@ digits-ext zero x y l m h = omega arith
 digits-ext (suc w) x y l m h =
     let e = h 0 (omega arith) in
     let f = digits-ext w (x / 2) (y / 2) (omega arith) (omega arith) (λ k n. digit-half x k ∙ h (suc k) (omega arith) ∙ sym (digit-half y k)) in
-    omega (arith, sym (ap (λ (n : ℕ). n % 2) (div-one x)) ∙ e ∙ ap (λ (n : ℕ). n % 2) (div-one y), f)
+    omega (arith, e, f)
 
 -- ---- bits
 
@@ -162,3 +163,49 @@ unfolding joinedBy
 joined-byte pmon a h =
     turns-keep (λ (x : ℕ). x < 256) (joinAfter pmon) 7
     (λ n x m k. chosen (λ (y : ℕ). y < 256) (bit x n && bit pmon (n + 1)) (with-byte x (n + 1) true k (omega arith)) k) 7 a (omega arith) h
+
+with-same : (x n : ℕ) → x < 256 → n < 8 → bit x n ≡ true → withBit x n true ≡ x
+with-same x n l m h =
+    byte-ext (withBit x n true) x (with-byte x n true l m) l
+    (λ k b. elim (ℕ-discrete k n) [ yes p ↦ rw p (bit-here x n true m ∙ sym h) | no p ↦ bit-there x n k true m b p ])
+
+-- a set that no turn changes
+joined-still : (pmon b : ℕ) → ((n : ℕ) → n < 7 → joinAfter pmon n b ≡ b) → joinedBy pmon b ≡ b
+unfolding joinedBy
+joined-still pmon b h = turns-keep (λ (x : ℕ). x ≡ b) (joinAfter pmon) 7 (λ n x l e. ap (joinAfter pmon n) e ∙ h n l) 7 b (omega arith) refl
+
+-- the rule twice is the rule once
+pub joined-twice : (pmon a : ℕ) → a < 256 → joinedBy pmon (joinedBy pmon a) ≡ joinedBy pmon a
+joined-twice pmon a h =
+    let b = joinedBy pmon a in
+    joined-still pmon b
+    (λ n l.
+    tested (λ (x : ℕ). x ≡ b) (bit b n && bit pmon (n + 1))
+    (λ e.
+    let t = (itself (bit b n) and itself (bit pmon (n + 1))) .sound e in
+    with-same b (n + 1) (joined-byte pmon a h) (omega arith) (joined-closed pmon a n l (t .0) (t .1)))
+    (λ e. refl))
+
+-- ---- how many they are
+
+counted-is : (a n m : ℕ) → counted a n m ≡ m + digit a n
+counted-is a n m =
+    tested (λ (x : ℕ). x ≡ m + digit a n) (bit a n) (λ e. let f = eqb-true (digit a n) 1 e in omega arith) (λ e. let f = eqb-false (digit a n) 1 e in omega arith)
+
+-- the lowest digit, and the others
+counted-step : (a n : ℕ) → turns (counted a) (suc n) 0 ≡ a % 2 + turns (counted (a / 2)) n 0
+unfolding turns
+counted-step a zero = counted-is a 0 0 ∙ omega arith
+counted-step a (suc n) =
+    let i = counted-step a n in
+    let e = counted-is (a / 2) n (turns (counted (a / 2)) n 0) in
+    counted-is a (suc n) (turns (counted a) (suc n) 0) ∙ omega (arith, i, e, digit-half a n)
+
+ones-counted : (w a : ℕ) → a < 2 ^ w → ones a ≡ turns (counted a) w 0
+unfolding ones turns
+ones-counted zero a l = let e : a ≡ 0 = omega arith in ap ones e
+ones-counted (suc w) a l = ones-step a ∙ ap (λ (n : ℕ). a % 2 + n) (ones-counted w (a / 2) (omega arith)) ∙ sym (counted-step a w)
+
+pub voices-ones : (a : ℕ) → a < 256 → ones a ≡ voicesIn a
+unfolding voicesIn
+voices-ones a l = ones-counted 8 a l
