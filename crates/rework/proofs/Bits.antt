@@ -2,10 +2,10 @@
 -- under that tick's PMON.
 use mathlib.Core.Bool.{Bool, true, false, _&&_}
 use mathlib.Core.Logic.{_≢_}
-use mathlib.Core.Path.{_≡_, refl, sym, ap, subst, _∙_}
+use mathlib.Core.Path.{_≡_, refl, sym, ap, _∙_}
 use Prim.Native.Nat.{ℕ, zero, suc, _+_, _-_, _*_, _/_, _%_, _^_, _≤_, _<_, min, max}
 use native.Mathlib.Omega.{arith}
-use native.Mathlib.Nat.{div-one, max-zero, max-eq-right, min-zero, min-eq-left, lt-of-le-of-lt}
+use native.Mathlib.Nat.{lt-of-le-of-lt}
 use native.Mathlib.Numerals.{one-add}
 use native.Mathlib.Decide.{ℕ-discrete}
 use borrow.Author.Tests.{eqb-true, eqb-false, eq-eqb, ne-eqb}
@@ -29,11 +29,12 @@ digit x k = x / 2 ^ k % 2
 digit-half : (x k : ℕ) → digit (x / 2) k ≡ digit x (suc k)
 digit-half x k = ap (λ (n : ℕ). n % 2) (shr-shr x 1 k ∙ ap (λ (n : ℕ). x / 2 ^ n) (one-add k))
 
-or-digit : (x y k : ℕ) → digit (bitOr x y) k ≡ max (digit x k) (digit y k)
-or-digit x y k = ap (λ (n : ℕ). n % 2) (or-shr x y k ∙ or-step (x / 2 ^ k) (y / 2 ^ k)) ∙ omega arith
-
-and-digit : (x y k : ℕ) → digit (bitAnd x y) k ≡ min (digit x k) (digit y k)
-and-digit x y k = ap (λ (n : ℕ). n % 2) (and-shr x y k ∙ and-step (x / 2 ^ k) (y / 2 ^ k)) ∙ omega arith
+-- an operation that goes digit by digit
+op-digit : (op f : ℕ → ℕ → ℕ) → ((x y k : ℕ) → op x y / 2 ^ k ≡ op (x / 2 ^ k) (y / 2 ^ k)) → ((x y : ℕ) → op x y ≡ op (x / 2) (y / 2) * 2 + f (x % 2) (y % 2))
+    → ((d e : ℕ) → d < 2 → e < 2 → f d e < 2) → (x y k : ℕ) → digit (op x y) k ≡ f (digit x k) (digit y k)
+op-digit op f shr step small x y k =
+    let l = small (digit x k) (digit y k) (omega arith) (omega arith) in
+    ap (λ (n : ℕ). n % 2) (shr x y k ∙ step (x / 2 ^ k) (y / 2 ^ k)) ∙ omega (arith, l)
 
 -- numbers of w digits that are equal digit by digit
 digits-ext : (w x y : ℕ) → x < 2 ^ w → y < 2 ^ w → ((k : ℕ) → k < w → digit x k ≡ digit y k) → x ≡ y
@@ -45,8 +46,13 @@ digits-ext (suc w) x y l m h =
 
 -- ---- bits
 
+-- a test for its own passing
 pub itself : (b : Bool) → Decides b (b ≡ true)
 itself b = record { sound = λ e. e; holds = λ e. e }
+
+pub unless : (b : Bool) → (b ≡ true → ⊥) → b ≡ false
+unless true h = absurd (h refl)
+unless false h = refl
 
 -- a test that passes at each number below n
 unfoldable all : (ℕ → Bool) → ℕ → Bool
@@ -68,32 +74,26 @@ pub full8 : (j : ℕ) → j < 8 → bit 0xFF j ≡ true
 unfolding all
 full8 = all-at (bit 0xFF) 8 refl
 
--- the byte of one bit, and that of all others
-power : (n k : ℕ) → n < 8 → k < 8 → digit (2 ^ n) k ≡ (if k =? n then 1 else 0)
-unfolding all
-power n k l m =
-    let here : ℕ → ℕ → Bool = (λ i j. digit (2 ^ i) j =? (if j =? i then 1 else 0)) in
-    eqb-true _ _ (all-at (here n) 8 (all-at (λ (i : ℕ). all (here i) 8) 8 refl n l) k m)
+-- bytes of which bit n is x and each other is y
+table : (byte : ℕ → ℕ) (x y : ℕ) → all (λ (n : ℕ). all (λ (k : ℕ). digit (byte n) k =? (if k =? n then x else y)) 8) 8 ≡ true
+    → (n k : ℕ) → n < 8 → k < 8 → digit (byte n) k ≡ (if k =? n then x else y)
+table byte x y e n k l m =
+    let at : ℕ → ℕ → Bool = (λ n k. digit (byte n) k =? (if k =? n then x else y)) in
+    eqb-true _ _ (all-at (at n) 8 (all-at (λ (i : ℕ). all (at i) 8) 8 e n l) k m)
 
-others : (n k : ℕ) → n < 8 → k < 8 → digit (255 - 2 ^ n) k ≡ (if k =? n then 0 else 1)
-unfolding all
-others n k l m =
-    let there : ℕ → ℕ → Bool = (λ i j. digit (255 - 2 ^ i) j =? (if j =? i then 0 else 1)) in
-    eqb-true _ _ (all-at (there n) 8 (all-at (λ (i : ℕ). all (there i) 8) 8 refl n l) k m)
-
-or-mark : (b : Bool) (d : ℕ) → d < 2 → max d (if b then 1 else 0) ≡ (if b then 1 else d)
-or-mark true d l = omega arith
-or-mark false d l = omega arith
-
-and-mark : (b : Bool) (d : ℕ) → d < 2 → min d (if b then 0 else 1) ≡ (if b then 0 else d)
-and-mark true d l = omega arith
-and-mark false d l = omega arith
+marked : (b : Bool) (d : ℕ) → d < 2 → (max d (if b then 1 else 0) ≡ (if b then 1 else d)) × (min d (if b then 0 else 1) ≡ (if b then 0 else d))
+marked true d l = omega arith
+marked false d l = omega arith
 
 -- the digits of a byte with one bit as given
 with-digit : (x n k : ℕ) (on : Bool) → n < 8 → k < 8 → digit (withBit x n on) k ≡ (if k =? n then (if on then 1 else 0) else digit x k)
-unfolding withBit
-with-digit x n k true l m = or-digit x (2 ^ n) k ∙ ap (max (digit x k)) (power n k l m) ∙ or-mark (k =? n) (digit x k) (omega arith)
-with-digit x n k false l m = and-digit x (255 - 2 ^ n) k ∙ ap (min (digit x k)) (others n k l m) ∙ and-mark (k =? n) (digit x k) (omega arith)
+unfolding withBit all
+with-digit x n k true l m =
+    op-digit bitOr max or-shr or-step (λ d e a b. omega arith) x (2 ^ n) k ∙ ap (max (digit x k)) (table (λ (i : ℕ). 2 ^ i) 1 0 refl n k l m)
+    ∙ marked (k =? n) (digit x k) (omega arith) .0
+with-digit x n k false l m =
+    op-digit bitAnd min and-shr and-step (λ d e a b. omega arith) x (255 - 2 ^ n) k ∙ ap (min (digit x k)) (table (λ (i : ℕ). 255 - 2 ^ i) 0 1 refl n k l m)
+    ∙ marked (k =? n) (digit x k) (omega arith) .1
 
 one-bit : (on : Bool) → ((if on then 1 else 0) =? 1) ≡ on
 one-bit true = refl

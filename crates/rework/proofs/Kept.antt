@@ -36,7 +36,7 @@ use Rattle.rework.specs.declared.modes.Modes.{Modes}
 use Rattle.rework.specs.Alike.{named}
 use Rattle.rework.specs.Members.{modesAfter, joinedBy}
 use Rattle.rework.specs.Differ.{Outside, SameBytes, SameBut}
-use Rattle.rework.proofs.Bits.{itself, full8, bit-here, bit-there, joined-more, joined-closed}
+use Rattle.rework.proofs.Bits.{itself, unless, full8, bit-here, bit-there, joined-more, joined-closed}
 use Rattle.rework.proofs.Lanes.{lane-last}
 use Rattle.rework.proofs.Tape.{Beat, put, tick, ask, Small, keep, modesIn, Quiet, joins, behindTick, tape, SameLanes, Rows, none, more, Kept}
 
@@ -116,15 +116,15 @@ silence-same a vs ws l m s =
     .2
 
 -- bytes that may be stored at m on the two sides
-record Alike (a m v w : ℕ) : Type 0 where
+record Storable (a m v w : ℕ) : Type 0 where
   own : m % 16 < 10 → Outside a (m / 16) → v ≡ w
   endx : m ≡ 0x7C → (j : ℕ) → j < 8 → Outside a j → bit v j ≡ bit w j
   others : 10 ≤ m % 16 → m ≢ 0x7C → v ≡ w
 
-alike-same : (a m v : ℕ) → Alike a m v v
-alike-same a m v = record { own = λ l o. refl; endx = λ e j l o. refl; others = λ l e. refl }
+storable-same : (a m v : ℕ) → Storable a m v v
+storable-same a m v = record { own = λ l o. refl; endx = λ e j l o. refl; others = λ l e. refl }
 
-bytes-set : (a : ℕ) (x y : List ℕ) (m v w : ℕ) → length x ≡ 128 → length y ≡ 128 → m < 128 → Alike a m v w → SameBytes a x y → SameBytes a (set x m v) (set y m w)
+bytes-set : (a : ℕ) (x y : List ℕ) (m v w : ℕ) → length x ≡ 128 → length y ≡ 128 → m < 128 → Storable a m v w → SameBytes a x y → SameBytes a (set x m v) (set y m w)
 bytes-set a x y m v w l k b h s =
     record {
       own = λ j n lj ln o. stored (λ z. z) 0 x y m (j * 16 + n) v w (omega arith) (omega arith) (λ e. let q : j ≡ m / 16 = omega arith in h .own (omega arith) (rw q at o)) (s .own j n lj ln o);
@@ -138,11 +138,11 @@ bytes-set a x y m v w l k b h s =
 both-write : (i x a : ℕ) (p q : Parts) → i < 128 → Sized p → Sized q → SameBut a p q → SameBut a (writeParts i x p) (writeParts i x q)
 unfolding writeParts
 both-write i x a p q l h k s =
-    let b : (y : ℕ) → SameBytes a (set (p .registers) i y) (set (q .registers) i y) = (λ y. bytes-set a (p .registers) (q .registers) i y y (h .registers) (k .registers) l (alike-same a i y) (s .bytes)) in
+    let b : (y : ℕ) → SameBytes a (set (p .registers) i y) (set (q .registers) i y) = (λ y. bytes-set a (p .registers) (q .registers) i y y (h .registers) (k .registers) l (storable-same a i y) (s .bytes)) in
     record {
       bytes =
           chosen-both (SameBytes a) (resets i x)
-          (bytes-set a (set (p .registers) i x) (set (q .registers) i x) 0x7C 0 0 (simp length-set (h .registers)) (simp length-set (k .registers)) (omega arith) (alike-same a 0x7C 0) (b x)) (b _);
+          (bytes-set a (set (p .registers) i x) (set (q .registers) i x) 0x7C 0 0 (simp length-set (h .registers)) (simp length-set (k .registers)) (omega arith) (storable-same a 0x7C 0) (b x)) (b _);
       voices =
           chosen-both (SameAt a noVoice) (i % 16 <? 8)
           (same-set a noVoice (p .voices) (q .voices) (i / 16) _ _ (h .voices) (k .voices) (omega arith) (λ o. ap (writeVoice (i % 16) x) (s .voices (i / 16) (omega arith) o)) (s .voices))
@@ -201,11 +201,7 @@ abbrev pub Within : ℕ → ℕ → Type 0
 Within a b = (j : ℕ) → j < 8 → bit a j ≡ true → bit b j ≡ true
 
 pub outside-mono : (a b : ℕ) → Within a b → (j : ℕ) → j < 8 → Outside b j → Outside a j
-outside-mono a b h j l o = go (bit a j) refl
-  where
-    go : (t : Bool) → bit a j ≡ t → Outside a j
-    go true e = absurd (true≢false (sym (h j l e) ∙ o))
-    go false e = e
+outside-mono a b h j l o = unless (bit a j) (λ e. true≢false (sym (h j l e) ∙ o))
 
 pub same-mono : (a b : ℕ) (p q : Parts) → Within a b → SameBut a p q → SameBut b p q
 same-mono a b p q h s =
@@ -270,8 +266,8 @@ lanes-more O n x y u v lx ly lu lv e h j l o =
       | no p ↦ lane-part j x u (omega arith) ∙ h j (omega arith) o ∙ sym (lane-part j y v (omega arith))
     ]
 
-own-alike : (a j k v w : ℕ) → k < 10 → (Outside a j → v ≡ w) → Alike a (j * 16 + k) v w
-own-alike a j k v w l h =
+storable-own : (a j k v w : ℕ) → k < 10 → (Outside a j → v ≡ w) → Storable a (j * 16 + k) v w
+storable-own a j k v w l h =
     let e : (j * 16 + k) / 16 ≡ j = omega arith in
     record { own = λ m o. h (rw e at o); endx = λ f. absurd (omega arith); others = λ m f. absurd (omega arith) }
 
@@ -286,8 +282,8 @@ put-same a j x y b k l lb lk e s =
     let k₂ = set k₁ (j * 16 + 9) (highZ (y .out)) in
     let l₁ : length b₁ ≡ 128 = simp length-set lb in
     let m₁ : length k₁ ≡ 128 = simp length-set lk in
-    let s₁ = bytes-set a b k (j * 16 + 8) (x .envx) (y .envx) lb lk (omega arith) (own-alike a j 8 (x .envx) (y .envx) (omega arith) (λ o. ap (λ (z : Cell). z .envx) (e o))) s in
-    let s₂ = bytes-set a b₁ k₁ (j * 16 + 9) (highZ (x .out)) (highZ (y .out)) l₁ m₁ (omega arith) (own-alike a j 9 (highZ (x .out)) (highZ (y .out)) (omega arith) (λ o. ap (λ (z : Cell). highZ (z .out)) (e o))) s₁ in
+    let s₁ = bytes-set a b k (j * 16 + 8) (x .envx) (y .envx) lb lk (omega arith) (storable-own a j 8 (x .envx) (y .envx) (omega arith) (λ o. ap (λ (z : Cell). z .envx) (e o))) s in
+    let s₂ = bytes-set a b₁ k₁ (j * 16 + 9) (highZ (x .out)) (highZ (y .out)) l₁ m₁ (omega arith) (storable-own a j 9 (highZ (x .out)) (highZ (y .out)) (omega arith) (λ o. ap (λ (z : Cell). highZ (z .out)) (e o))) s₁ in
     let v = getD b₂ 0x7C 0 in
     let w = getD k₂ 0x7C 0 in
     let at : (i : ℕ) → i < 8 → Outside a i → bit (withBit v j (x .endx)) i ≡ bit (withBit w j (y .endx)) i =
@@ -301,51 +297,47 @@ put-same a j x y b k l lb lk e s =
 
 -- two rounds before voice n, that agree outside the set
 record Beside (a : ℕ) (c : Shared) (p q : Parts) (n : ℕ) (r s : Round) : Type 0 where
-  one : Sized (amid p r)
-  two : Sized (amid q s)
+  sized₁ : Sized (amid p r)
+  sized₂ : Sized (amid q s)
   same : SameBut a (amid p r) (amid q s)
-  row : length (r .row) ≡ n * 4
-  rows : length (s .row) ≡ n * 4
+  row₁ : length (r .row) ≡ n * 4
+  row₂ : length (s .row) ≡ n * 4
   lanes : (j : ℕ) → j < n → Outside a j → laneAt j (r .row) ≡ laneAt j (s .row)
   prev : n < 8 → Outside a n → bit (c .pmon) n ≡ true → r .acc .prev ≡ s .acc .prev
 
--- a voice behind one of the set is of the set where PMON selects it
+-- a set that no voice joins under a PMON, so that a voice outside that is modulated is modulated from outside
 abbrev Closed : ℕ → ℕ → Type 0
-Closed a pmon = (j : ℕ) → j < 7 → bit a j ≡ true → bit pmon (suc j) ≡ true → bit a (suc j) ≡ true
+Closed a pmon = (j : ℕ) → j < 7 → bit a j ≡ true → bit pmon (j + 1) ≡ true → bit a (j + 1) ≡ true
 
 before : (a pmon n : ℕ) → Closed a pmon → n < 7 → Outside a (suc n) → bit pmon (suc n) ≡ true → Outside a n
-before a pmon n h l o e = go (bit a n) refl
-  where
-    go : (t : Bool) → bit a n ≡ t → Outside a n
-    go true f = absurd (true≢false (sym (h n l f e) ∙ o))
-    go false f = f
+before a pmon n h l o e = unless (bit a n) (λ f. true≢false (sym (h n l f (rw (add-one n) e)) ∙ rw (add-one n) o))
 
 -- the round after voice n's turn, that came to x
-abbrev landing-own : Shared → ℕ → Round → Cell → Round
-landing-own c n r x = landing n r (landed true c n (r .acc) (r .bytes) [] x)
+abbrev landingOwn : Shared → ℕ → Round → Cell → Round
+landingOwn c n r x = landing n r (landed true c n (r .acc) (r .bytes) [] x)
 
 beside-cells : (a : ℕ) (c : Shared) (p q : Parts) (n : ℕ) (r s : Round) (x y : Cell) → n < 8 → Closed a (c .pmon) → (Outside a n → x ≡ y)
-    → Beside a c p q n r s → Sized (amid p (landing-own c n r x)) → Sized (amid q (landing-own c n s y)) → Beside a c p q (suc n) (landing-own c n r x) (landing-own c n s y)
+    → Beside a c p q n r s → Sized (amid p (landingOwn c n r x)) → Sized (amid q (landingOwn c n s y)) → Beside a c p q (suc n) (landingOwn c n r x) (landingOwn c n s y)
 unfolding added laneBytes
 beside-cells a c p q n r s x y l h e b lx ly =
     let i = b .same in
     record {
-      one = lx;
-      two = ly;
+      sized₁ = lx;
+      sized₂ = ly;
       same =
           record {
-            bytes = put-same a n x y (r .bytes) (s .bytes) l (b .one .registers) (b .two .registers) e (i .bytes);
-            voices = same-set a noVoice (r .voices) (s .voices) n (x .voice) (y .voice) (b .one .voices) (b .two .voices) l (λ o. ap (λ (z : Cell). z .voice) (e o)) (i .voices);
-            delays = same-set a 0 (r .delays) (s .delays) n (x .delay) (y .delay) (b .one .delays) (b .two .delays) l (λ o. ap (λ (z : Cell). z .delay) (e o)) (i .delays);
+            bytes = put-same a n x y (r .bytes) (s .bytes) l (b .sized₁ .registers) (b .sized₂ .registers) e (i .bytes);
+            voices = same-set a noVoice (r .voices) (s .voices) n (x .voice) (y .voice) (b .sized₁ .voices) (b .sized₂ .voices) l (λ o. ap (λ (z : Cell). z .voice) (e o)) (i .voices);
+            delays = same-set a 0 (r .delays) (s .delays) n (x .delay) (y .delay) (b .sized₁ .delays) (b .sized₂ .delays) l (λ o. ap (λ (z : Cell). z .delay) (e o)) (i .delays);
             taps = i .taps;
             left = i .left;
             right = i .right;
             glob = i .glob;
           };
-      row = length-append (r .row) (laneBytes (x .out) (x .envx) (x .endx)) ∙ omega (arith, b .row);
-      rows = length-append (s .row) (laneBytes (y .out) (y .envx) (y .endx)) ∙ omega (arith, b .rows);
+      row₁ = length-append (r .row) (laneBytes (x .out) (x .envx) (x .endx)) ∙ omega (arith, b .row₁);
+      row₂ = length-append (s .row) (laneBytes (y .out) (y .envx) (y .endx)) ∙ omega (arith, b .row₂);
       lanes =
-          lanes-more (Outside a) n (r .row) (s .row) (laneBytes (x .out) (x .envx) (x .endx)) (laneBytes (y .out) (y .envx) (y .endx)) (b .row) (b .rows) refl refl
+          lanes-more (Outside a) n (r .row) (s .row) (laneBytes (x .out) (x .envx) (x .endx)) (laneBytes (y .out) (y .envx) (y .endx)) (b .row₁) (b .row₂) refl refl
           (λ o. ap (λ (z : Cell). laneBytes (z .out) (z .envx) (z .endx)) (e o)) (b .lanes);
       prev = λ m o t. ap (λ (z : Cell). even (z .out)) (e (before a (c .pmon) n h (omega arith) o t));
     }
@@ -354,7 +346,7 @@ beside-cells a c p q n r s x y l h e b lx ly =
 abbrev cellIn : Shared → List ℕ → ℕ → Round → Cell
 cellIn c ram n r = ownCell c ram n (r .acc .prev) (getD (r .voices) n noVoice) (getD (r .delays) n 0) (r .bytes)
 
-turn-own : (old : List ℕ) (c : Shared) (ram : List ℕ) (n : ℕ) (r : Round) → n < 8 → turn 0xFF old c ram n r ≡ landing-own c n r (cellIn c ram n r)
+turn-own : (old : List ℕ) (c : Shared) (ram : List ℕ) (n : ℕ) (r : Round) → n < 8 → turn 0xFF old c ram n r ≡ landingOwn c n r (cellIn c ram n r)
 unfolding turn turned
 turn-own old c ram n r l = rw (full8 n l)
 
@@ -369,17 +361,17 @@ beside-turn a c ram o₁ o₂ p q n r s l h b =
     cell-same c ram n (r .acc .prev) (s .acc .prev) (getD (r .voices) n noVoice) (getD (s .voices) n noVoice) (getD (r .delays) n 0) (getD (s .delays) n 0) (r .bytes) (s .bytes)
     (source-same (c .pmon) n (r .acc .prev) (s .acc .prev) (b .prev l o)) (i .voices n l o) (i .delays n l o) (i .bytes .own n 4 l (omega arith) o) (i .bytes .own n 8 l (omega arith) o) (i .bytes .endx n l o)) in
     let z = beside-cells a c p q n r s (cellIn c ram n r) (cellIn c ram n s) l h g b
-    (subst (λ (t : Round). Sized (amid p t)) e (sized-turn 0xFF o₁ c ram p n r (b .one))) (subst (λ (t : Round). Sized (amid q t)) f (sized-turn 0xFF o₂ c ram q n s (b .two))) in
-    subst (Beside a c p q (suc n) (turn 0xFF o₁ c ram n r)) (sym f) (subst (λ (t : Round). Beside a c p q (suc n) t (landing-own c n s (cellIn c ram n s))) (sym e) z)
+    (subst (λ (t : Round). Sized (amid p t)) e (sized-turn 0xFF o₁ c ram p n r (b .sized₁))) (subst (λ (t : Round). Sized (amid q t)) f (sized-turn 0xFF o₂ c ram q n s (b .sized₂))) in
+    subst (Beside a c p q (suc n) (turn 0xFF o₁ c ram n r)) (sym f) (subst (λ (t : Round). Beside a c p q (suc n) t (landingOwn c n s (cellIn c ram n s))) (sym e) z)
 
 -- ---- a tick
 
--- FLG bit 5 keeps RAM
+-- with FLG bit 5 set RAM is as it was
 ram-kept : (w : Work) (old : List ℕ) (p : Parts) (ram : List ℕ) → bit (p .glob .flg) 5 ≡ true → tickOf w old p ram .ram ≡ ram
 unfolding tickOf echoLane echoTick echoWritten globTick
 ram-kept w old p ram e = chosen (λ (x : EchoLane). x .echo .ram ≡ ram) (w .echo) (rw e) refl
 
--- and a tick keeps what decides
+-- the two fields that decide are as they were
 modes-kept : (old : List ℕ) (p : Parts) (ram : List ℕ) → modesIn (tickOf everything old p ram .parts .glob) ≡ modesIn (p .glob)
 unfolding tickOf echoLane echoTick echoMoved globTick
 modes-kept old p ram = refl
@@ -398,12 +390,11 @@ echoIn p ram input = echoTick (globTick (p .glob)) (p .taps) (p .left) (p .right
 echo-same : (a : ℕ) (p q : Parts) (ram : List ℕ) (x y : Stereo) → SameBut a p q
     → (echoIn p ram x .glob ≡ echoIn q ram y .glob) × (echoIn p ram x .left ≡ echoIn q ram y .left) × (echoIn p ram x .right ≡ echoIn q ram y .right)
 unfolding echoTick
-echo-same a p q ram x y s = (
-  λ i. echoTick (globTick (s .glob i)) (s .taps i) (s .left i) (s .right i) ram x .glob,
-  λ i. echoTick (globTick (s .glob i)) (s .taps i) (s .left i) (s .right i) ram x .left,
-  λ i. echoTick (globTick (s .glob i)) (s .taps i) (s .left i) (s .right i) ram x .right,
-)
+echo-same a p q ram x y s =
+    let e : echoIn p ram x ≡ echoIn q ram x = (λ i. echoTick (globTick (s .glob i)) (s .taps i) (s .left i) (s .right i) ram x) in
+    (ap (λ (z : Echo). z .glob) e, ap (λ (z : Echo). z .left) e, ap (λ (z : Echo). z .right) e)
 
+-- two ticks that agree outside the set
 record Alongside (a : ℕ) (t u : Ticked) : Type 0 where
   parts : SameBut a (t .parts) (u .parts)
   lanes : SameLanes a (t .row) (u .row)
@@ -419,7 +410,7 @@ tick-same a o₁ o₂ p q ram h k l s =
     let b : Beside a c p q 8 r t =
     subst (λ (z : Shared). Beside a c p q 8 r (turns (turn 0xFF o₂ z ram) 8 (startOf q))) (shared-same a p q s)
     (turns-both (Beside a c p q) (turn 0xFF o₁ c ram) (turn 0xFF o₂ c ram) 8 (λ n r t m x. beside-turn a c ram o₁ o₂ p q n r t m l x) 8 (startOf p) (startOf q) (omega arith)
-    (record { one = h; two = k; same = s; row = refl; rows = refl; lanes = λ j m. absurd (omega arith); prev = λ m o t. refl })) in
+    (record { sized₁ = h; sized₂ = k; same = s; row₁ = refl; row₂ = refl; lanes = λ j m. absurd (omega arith); prev = λ m o t. refl })) in
     let e = echo-same a p q ram (r .acc .input) (t .acc .input) s in
     let slot : Glob → List ℕ = (λ g. pairBytes (g .«echo_out_l») (g .«echo_out_r»)) in
     record {
@@ -434,12 +425,9 @@ tick-same a o₁ o₂ p q ram h k l s =
             glob = e .0;
           };
       lanes =
-          lanes-more (λ (j : ℕ). j < 8 → Outside a j) 8 (r .row) (t .row) (slot (echoIn p ram (r .acc .input) .glob)) (slot (echoIn q ram (t .acc .input) .glob)) (b .row) (b .rows) refl refl
+          lanes-more (λ (j : ℕ). j < 8 → Outside a j) 8 (r .row) (t .row) (slot (echoIn p ram (r .acc .input) .glob)) (slot (echoIn q ram (t .acc .input) .glob)) (b .row₁) (b .row₂) refl refl
           (λ o. ap slot (e .0)) (λ j m o. b .lanes j m (o m));
     }
-
-closed-joined : (pmon a : ℕ) → Closed (joinedBy pmon a) pmon
-closed-joined pmon a j l h e = rw (← add-one j) (joined-closed pmon a j l h (rw (add-one j) e))
 
 -- ---- a run
 
@@ -472,7 +460,7 @@ kept s (tick ∷ bs) a o₁ o₂ p q ram m h k w e t =
     let b = joinedBy pmon a in
     let x = tickOf everything o₁ p ram in
     let y = tickOf everything o₂ q ram in
-    let z = tick-same b o₁ o₂ p q ram h k (closed-joined pmon a) (same-mono a b p q (joined-more pmon a) e) in
+    let z = tick-same b o₁ o₂ p q ram h k (joined-closed pmon a) (same-mono a b p q (joined-more pmon a) e) in
     let c = joins bs (modesIn (p .glob)) b in
     kept-behind c bs (keep s bs) (drop 36 o₁) (drop 36 o₂) ram x y (ram-kept everything o₁ p ram (t .0)) (ram-kept everything o₂ q ram (rw (← (e .glob)) (t .0)))
     (lanes-mono b c (x .row) (y .row) (joins-more bs (modesIn (p .glob)) b) (z .lanes))
