@@ -1,3 +1,5 @@
+pub mod Bits
+pub mod Kept
 pub mod Lanes
 pub mod Tape
 pub mod Sixteen
