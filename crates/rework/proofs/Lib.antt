@@ -7,3 +7,4 @@ pub mod Kept
 pub mod Stays
 pub mod Walks
 pub mod Reworks
+pub mod Taped
