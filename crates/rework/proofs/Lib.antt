@@ -8,3 +8,4 @@ pub mod Stays
 pub mod Walks
 pub mod Reworks
 pub mod Taped
+pub mod Sheets
