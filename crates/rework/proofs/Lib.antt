@@ -4,6 +4,7 @@ pub mod Tape
 pub mod Sixteen
 pub mod Right
 pub mod Kept
+pub mod Ends
 pub mod Stays
 pub mod Walks
 pub mod Reworks
