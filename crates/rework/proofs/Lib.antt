@@ -10,3 +10,8 @@ pub mod Walks
 pub mod Reworks
 pub mod Taped
 pub mod Sheets
+pub mod Beats
+pub mod Taken
+pub mod Keeps
+pub mod Demand1
+pub mod Demand3
