@@ -49,7 +49,7 @@ self-records (r ∷ rs) = λ i. self-record r i && self-records rs i
 
 -- ---- both sides of one start
 
-same-self : (a : ℕ) (p : Parts) → SameBut a p p
+pub same-self : (a : ℕ) (p : Parts) → SameBut a p p
 same-self a p =
     record {
       bytes = record { own = λ j k l m o. refl; endx = λ j l o. refl; others = λ n l m o. refl };

@@ -72,7 +72,7 @@ endx-write i x p l h =
     (set-keeps P 0 (set (p .registers) i x) 0x7C 0 (omega arith) 0x7C (set-keeps P 0 (p .registers) i x l 0x7C h))
     (set-keeps P 0 (p .registers) i (at i 0x7C x x) (chosen P (i =? 0x7C) l l) 0x7C h)
 
-whole-tick : (w : Work) (old : List ℕ) (p : Parts) (ram : List ℕ) → Whole p ram → Whole (tickOf w old p ram .parts) (tickOf w old p ram .ram)
+pub whole-tick : (w : Work) (old : List ℕ) (p : Parts) (ram : List ℕ) → Whole p ram → Whole (tickOf w old p ram .parts) (tickOf w old p ram .ram)
 unfolding benchTick
 whole-tick w old p ram h =
     let b : Bench = record { parts = p; ram = ram; pcm = []; sheet = []; old = old } in
@@ -82,9 +82,11 @@ whole-tick w old p ram h =
       room = fit-kept-bench w b (record { ram = h .room; round = h .good .round .fit; glob = h .good .glob }) .ram;
     }
 
+pub whole-write : (i x : ℕ) (p : Parts) (ram : List ℕ) → i < 128 → x < 256 → Whole p ram → Whole (writeParts i x p) ram
+whole-write i x p ram li lx h = record { good = good-write i x p li lx (h .good); endx = endx-write i x p lx (h .endx); room = h .room }
+
 pub whole-tape : (w : Work) (bs : List Beat) (old : List ℕ) (p : Parts) (ram : List ℕ) → Small bs → Whole p ram → Whole (tape w bs old p ram .parts) (tape w bs old p ram .ram)
-whole-tape w =
-    tape-keeps w Whole (whole-tick w) (λ i x p ram li lx h. record { good = good-write i x p li lx (h .good); endx = endx-write i x p lx (h .endx); room = h .room })
+whole-tape w = tape-keeps w Whole (whole-tick w) whole-write
 
 -- the parts of a fit record of the language
 pub whole-start : (d : Dsp) (ram : List ℕ) → Value (apart d) → fit d ≡ true → length ram ≡ 0x10000 → Whole (apart d) ram

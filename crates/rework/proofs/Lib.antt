@@ -14,4 +14,6 @@ pub mod Beats
 pub mod Taken
 pub mod Keeps
 pub mod Demand1
+pub mod Demand2
 pub mod Demand3
+pub mod Instance

@@ -1,7 +1,7 @@
 -- The demands, as statements about the definitions that the contracts cite: `writeOf`, `stepOf`, `renderOf`, `driveOf`, `measureOf`, `runWith`,
 -- `runOf`, `reworkOf`. (That no call traps or runs on is what the proof of any function says. That the definitions are the given
 -- Rust's is compared, not proved.) Demand 1: `demand1`; demand 2: `demand2`; demand 3: `demand3`, in proofs/.
-use mathlib.Core.Bool.{true, false}
+use mathlib.Core.Bool.{true}
 use mathlib.Core.List.{List, [], _∷_, _++_}
 use mathlib.Core.Logic.{_≢_}
 use mathlib.Core.Path.{_≡_}
@@ -9,11 +9,10 @@ use Prim.Native.Nat.{ℕ, zero, suc, _*_, _<_}
 use lib.IntN.{pos}
 use lib.ListN.{getD, length, drop}
 use Rattle.dsp.specs.Machine.{apart}
-use Rattle.dsp.specs.Fit.{fit}
 use Rattle.dsp.specs.Registers.{Written, writeOf}
 use Rattle.dsp.specs.Mix.{Rendered, renderOf}
 use Rattle.dsp.specs.Sheet.{pairBytes, laneAt}
-use Rattle.dsp.specs.Tick.{refused, stepOf, undriven, driveOf}
+use Rattle.dsp.specs.Tick.{After, refused, stepOf, undriven, driveOf}
 use Rattle.dsp.specs.declared.registers.Dsp.{Dsp}
 use Rattle.dsp.specs.declared.tick.Work.{Work}
 use Rattle.log.specs.Log.{decode}
@@ -48,6 +47,41 @@ IsRecord d = Value (apart d)
 
 abbrev pub Bytes : List ℕ → Type 0
 Bytes log = (i : ℕ) → getD log i 0 < 256
+
+-- ---- 2: from any fit record a run is the public entries one after another
+
+pub record Played : Type 0 where
+  pub dsp : Dsp
+  pub ram : List ℕ
+  pub pcm : List ℕ
+  pub readings : List ℕ
+
+abbrev pub heardAfter : Played → After → Played
+heardAfter p a =
+    record { dsp = a .dsp; ram = a .ram; pcm = p .pcm ++ pairBytes (renderOf (a .dsp) .left) (renderOf (a .dsp) .right); readings = p .readings }
+
+-- "a tick is `step`, then `render_audio_single`"
+unfoldable pub tickBy : ℕ → Played → Played
+tickBy zero p = p
+tickBy (suc n) p = heardAfter (tickBy n p) (stepOf (tickBy n p .dsp) (tickBy n p .ram))
+
+-- RW is `write_reg`, QA is `read_reg`
+abbrev pub recordBy : Record → Played → Played
+recordBy (Write r x) p = record { dsp = writeOf r x (p .dsp) .dsp; ram = p .ram; pcm = p .pcm; readings = p .readings }
+recordBy (Ticks n) p = tickBy n p
+recordBy (Reading r) p = record { dsp = p .dsp; ram = p .ram; pcm = p .pcm; readings = p .readings ++ (getD (p .dsp .registers) r 0 ∷ []) }
+
+unfoldable pub logBy : List Record → Played → Played
+logBy [] p = p
+logBy (r ∷ rs) p = logBy rs (recordBy r p)
+
+abbrev pub playedIn : Outcome → Played
+playedIn o = record { dsp = o .dsp; ram = o .ram; pcm = o .pcm; readings = o .readings }
+
+abbrev pub Demand2 : Type 0
+Demand2 =
+    (d : Dsp) (ram log pcm sheet readings : List ℕ) → IsRecord d → Bytes log → runOf d ram log pcm sheet readings .refusal ≡ 0
+    → logBy (decode log .records) (record { dsp = d; ram = ram; pcm = []; readings = [] }) ≡ playedIn (runOf d ram log pcm sheet readings)
 
 -- ---- 3
 
