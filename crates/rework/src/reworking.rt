@@ -179,5 +179,15 @@ pub fn rework_new(
     if first.refusal != 0 {
         return refused(first.refusal, start);
     }
-    rework(named, start, first.dsp, ram, old_log, new_log, sheet, pcm, readings)
+    rework(
+        named,
+        start,
+        first.dsp,
+        ram,
+        old_log,
+        new_log,
+        sheet,
+        pcm,
+        readings,
+    )
 }
