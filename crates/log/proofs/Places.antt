@@ -1,8 +1,9 @@
 -- Places of a log: a record ends past where it began; and the bound on the number of records is never met.
-use mathlib.Core.List.{List, _∷_}
-use mathlib.Core.Path.{_≡_, refl, ap, subst}
+use mathlib.Core.List.{List, [], _∷_}
+use mathlib.Core.Path.{_≡_, refl, sym, ap, subst, _∙_}
 use Prim.Native.Nat.{ℕ, zero, suc, _+_, _-_, _*_, _≤_, _<_}
 use native.Mathlib.Omega.{arith}
+use native.Mathlib.Numerals.{add-one}
 use lib.ListN.{length, getD}
 use borrow.Author.Tests.{ltb-false, leb-false, le-leb}
 use Rattle.numbers.specs.Choice.{_≤?_, _<?_, _=?_}
@@ -11,7 +12,7 @@ use Rattle.log.specs.declared.Record.{Record}
 use Rattle.log.specs.declared.Record.the-variants.{Write, Ticks, Reading}
 use Rattle.log.specs.declared.Next.{Next}
 use Rattle.log.specs.declared.Next.the-variants.{On, Off}
-use Rattle.log.specs.Log.{byteOf, writeAt, ticksAt, readingAt, byMark, readAt, Moves, Decoded, before, decodeFrom}
+use Rattle.log.specs.Log.{byteOf, writeAt, ticksAt, readingAt, byMark, readAt, Moves, Decoded, before, decodeFrom, recordsFrom}
 
 module _ (log : List ℕ) (at : ℕ) where
   abbrev Ok : Next → Type 0
@@ -86,3 +87,18 @@ decode-more zero log at h = ap (before (decodeFrom 0 log)) (past-end log at (ome
 decode-more (suc f) log at h =
     same-before (readAt log at) (decodeFrom (suc f) log) (decodeFrom f log)
     (λ r behind e. let m = subst (Moves at (length log)) e (moves log at) in decode-more f log behind (omega (arith, h, m .0)))
+
+-- ---- the records from a place on
+-- opened at what stands there
+pub opened-at : (log : List ℕ) (at behind : ℕ) (r : Record) → readAt log at ≡ On r behind → recordsFrom log at ≡ r ∷ recordsFrom log behind
+unfolding decodeFrom
+opened-at log at behind r e =
+    let m = subst (Moves at (length log)) e (moves log at) in
+    ap (λ (k : ℕ). decodeFrom k log at .records) (add-one (length log))
+    ∙ ap (λ (n : Next). before (decodeFrom (length log) log) n .records) e
+    ∙ ap (λ (l : List Record). r ∷ l) (sym (ap (λ (x : _). x .records) (ap (λ (k : ℕ). decodeFrom k log behind) (add-one (length log)) ∙ decode-more (length log) log behind (omega (arith, m .0)))))
+
+pub closed-at : (log : List ℕ) (at k : ℕ) → readAt log at ≡ Off k → recordsFrom log at ≡ []
+unfolding decodeFrom
+closed-at log at k e =
+    ap (λ (j : ℕ). decodeFrom j log at .records) (add-one (length log)) ∙ ap (λ (n : Next). before (decodeFrom (length log) log) n .records) e

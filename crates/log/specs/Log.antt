@@ -81,3 +81,7 @@ decodeFrom (suc f) log at = before (decodeFrom f log) (readAt log at)
 unfoldable pub decode : List ℕ → Decoded
 unfolding decodeFrom
 decode log = decodeFrom (length log + 1) log 0
+
+-- the records from a place on
+abbrev pub recordsFrom : List ℕ → ℕ → List Record
+recordsFrom log at = decodeFrom (length log + 1) log at .records

@@ -1,2 +1,9 @@
+pub mod Bits
 pub mod Lanes
 pub mod Tape
+pub mod Sixteen
+pub mod Right
+pub mod Kept
+pub mod Stays
+pub mod Walks
+pub mod Reworks

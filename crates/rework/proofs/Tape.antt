@@ -1,5 +1,5 @@
 -- A log as single beats, and what a play of them puts out, tick by tick; and the relations that the two halves of demand 3 keep.
-use mathlib.Core.Bool.{true, false}
+use mathlib.Core.Bool.{true}
 use mathlib.Core.List.{List, [], _∷_}
 use mathlib.Core.Path.{_≡_}
 use Prim.Native.Nat.{ℕ, zero, suc, _<_}

@@ -1,3 +1,4 @@
 pub mod Alike
 pub mod Members
 pub mod Differ
+pub mod Rework

@@ -19,13 +19,21 @@ modesOf d = record { flg = d .flg; pmon = d .pmon }
 abbrev pub modesAfter : ℕ → ℕ → Modes → Modes
 modesAfter r x m = record { flg = at r 0x6C x (m .flg); pmon = at r 0x2D (x / 2 * 2) (m .pmon) }
 
+abbrev pub modesBy : Record → Modes → Modes
+modesBy (Write r x) m = modesAfter r x m
+modesBy (Ticks n) m = m
+modesBy (Reading r) m = m
+
 -- ---- FLG bit 5 is set at every tick
+
+abbrev pub quietIn : Record → Modes → Bool
+quietIn (Write r x) m = true
+quietIn (Ticks n) m = (n =? 0) || bit (m .flg) 5
+quietIn (Reading r) m = true
 
 unfoldable pub quiet : List Record → Modes → Bool
 quiet [] m = true
-quiet (Write r x ∷ rs) m = quiet rs (modesAfter r x m)
-quiet (Ticks n ∷ rs) m = ((n =? 0) || bit (m .flg) 5) && quiet rs m
-quiet (Reading r ∷ rs) m = quiet rs m
+quiet (r ∷ rs) m = quietIn r m && quiet rs (modesBy r m)
 
 -- ---- "the set A starts as S; at each tick, from voice 1 up, voice j joins if j - 1 is in A and PMON bit j is set"
 
@@ -42,11 +50,14 @@ unfoldable pub joinedOver : ℕ → ℕ → ℕ → ℕ
 joinedOver zero pmon a = a
 joinedOver (suc n) pmon a = joinedBy pmon (joinedOver n pmon a)
 
+abbrev pub joinedIn : Record → Modes → ℕ → ℕ
+joinedIn (Write r x) m a = a
+joinedIn (Ticks n) m a = joinedOver n (m .pmon) a
+joinedIn (Reading r) m a = a
+
 unfoldable pub members : List Record → Modes → ℕ → ℕ
 members [] m a = a
-members (Write r x ∷ rs) m a = members rs (modesAfter r x m) a
-members (Ticks n ∷ rs) m a = members rs m (joinedOver n (m .pmon) a)
-members (Reading r ∷ rs) m a = members rs m a
+members (r ∷ rs) m a = members rs (modesBy r m) (joinedIn r m a)
 
 -- ---- how many they are
 

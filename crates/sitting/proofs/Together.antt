@@ -6,7 +6,6 @@ use mathlib.Core.Path.{_≡_, refl, sym, ap, subst, _∙_}
 use Prim.Native.Nat.{ℕ, zero, suc, _+_, _-_, _*_, _/_, _≤_, _<_}
 use native.Mathlib.Omega.{arith}
 use native.Mathlib.Nat.{add-suc, add-zero}
-use native.Mathlib.Numerals.{add-one}
 use lib.ListN.{length, drop, length-append}
 use lib.Seq.{take-at, drop-nil}
 use borrow.Author.Tests.{eqb-true, eqb-false, ne-eqb}
@@ -20,18 +19,19 @@ use Rattle.dsp.specs.Sheet.{pairBytes}
 use Rattle.dsp.specs.Tick.{everything, tickOf, Bench, benchOf, benchTick, ticksOf}
 use Rattle.dsp.specs.declared.registers.Dsp.{Dsp}
 use Rattle.dsp.specs.declared.tick.Work.{Work}
-use Rattle.log.specs.Log.{readAt, Moves, before, decodeFrom, decode}
+use Rattle.log.specs.Log.{readAt, decode, recordsFrom}
 use Rattle.log.specs.Measure.{measureOf}
 use Rattle.log.specs.declared.Measured.{Measured}
 use Rattle.log.specs.declared.Record.{Record}
 use Rattle.log.specs.declared.Record.the-variants.{Write, Ticks, Reading}
 use Rattle.log.specs.declared.Next.{Next}
 use Rattle.log.specs.declared.Next.the-variants.{On, Off}
-use Rattle.log.proofs.Places.{moves, decode-more}
+use Rattle.log.proofs.Places.{opened-at, closed-at}
 use Rattle.sitting.specs.Play.{Run, byteOf, play, playAll, starting}
-use Rattle.sitting.specs.Parts.{Parted, untold, stopAt, recordAt, nextAt, ticksNow, sounding, partOf, Rest, restIn, recordsFrom, restOf, ahead, PartAfterPart, PartsBegin, PartsEnd}
-use Rattle.sitting.specs.Run.{Outcome, runMeasured, runOf}
+use Rattle.sitting.specs.Parts.{Parted, untold, stopAt, recordAt, nextAt, ticksNow, sounding, partOf, Rest, restIn, restOf, ahead, PartAfterPart, PartsBegin, PartsEnd}
+use Rattle.sitting.specs.Run.{Outcome, runMeasured, runWith}
 use Rattle.sitting.specs.declared.parts.Heard.the-variants.{End}
+use Rattle.sitting.proofs.Runs.{all-unseen}
 
 -- ---- what has been put out stays in front
 
@@ -77,22 +77,6 @@ old-none : (w : Work) (n : ℕ) (d : Dsp) (ram : List ℕ) → ticksOf w n (benc
 unfolding ticksOf benchTick
 old-none w zero d ram = refl
 old-none w (suc n) d ram = ap (drop 36) (old-none w n d ram) ∙ drop-nil 36
-
--- ---- a record
-
--- the records from a place on, opened at what stands there
-opened-at : (log : List ℕ) (at behind : ℕ) (r : Record) → readAt log at ≡ On r behind → recordsFrom log at ≡ r ∷ recordsFrom log behind
-unfolding decodeFrom
-opened-at log at behind r e =
-    let m = subst (Moves at (length log)) e (moves log at) in
-    ap (λ (k : ℕ). decodeFrom k log at .records) (add-one (length log))
-    ∙ ap (λ (n : Next). before (decodeFrom (length log) log) n .records) e
-    ∙ ap (λ (l : List Record). r ∷ l) (sym (ap (λ (x : _). x .records) (ap (λ (k : ℕ). decodeFrom k log behind) (add-one (length log)) ∙ decode-more (length log) log behind (omega (arith, m .0)))))
-
-closed-at : (log : List ℕ) (at k : ℕ) → readAt log at ≡ Off k → recordsFrom log at ≡ []
-unfolding decodeFrom
-closed-at log at k e =
-    ap (λ (j : ℕ). decodeFrom j log at .records) (add-one (length log)) ∙ ap (λ (n : Next). before (decodeFrom (length log) log) n .records) e
 
 -- ---- a part
 
@@ -189,15 +173,17 @@ parts-end d at left ram log pcm =
 abbrev Whole : Dsp → List ℕ → List ℕ → Outcome → Type 0
 Whole d ram log o = o .refusal ≡ 0 → _≡_ {A = Rest} (restOf d 0 0 ram log) (record { pcm = o .pcm; readings = o .readings; dsp = o .dsp; ram = o .ram })
 
-measured-whole : (m : Measured) (d : Dsp) (ram log pcm sheet readings : List ℕ) → Whole d ram log (runMeasured m d ram log pcm sheet readings)
+measured-whole : (m : Measured) (d : Dsp) (ram log pcm sheet readings : List ℕ) → Whole d ram log (runMeasured everything m d ram log pcm sheet readings)
 unfolding runMeasured restOf playAll play ticksOf decode
 measured-whole m d ram log pcm sheet readings =
     tested (Whole d ram log) (m .refusal =? 0)
-    (λ _. tested (Whole d ram log) ((length pcm =? m .ticks * 4) && (length sheet =? m .ticks * 36) && (length readings =? m .readings)) (λ _ e. refl) (λ _ e. absurd (omega arith)))
+    (λ _. tested (Whole d ram log) ((length pcm =? m .ticks * 4) && (length sheet =? m .ticks * 36) && (length readings =? m .readings))
+    (λ _ e. ap restIn (sym (all-unseen (decode log .records) (starting d ram sheet))))
+    (λ _ e. absurd (omega arith)))
     (λ f e. absurd (eqb-false (m .refusal) 0 f e))
 
 pub parts-begin : PartsBegin
-unfolding runOf
+unfolding runWith
 parts-begin d ram log pcm sheet readings =
     tested (Whole d ram log) (length ram =? 0x10000)
     (λ _. tested (Whole d ram log) (fit d) (λ _. measured-whole (measureOf log) d ram log pcm sheet readings) (λ _ e. absurd (omega arith)))

@@ -10,7 +10,7 @@ use Rattle.dsp.specs.Fit.{fit}
 use Rattle.dsp.specs.Registers.{writeAt}
 use Rattle.dsp.specs.Tick.{everything, Bench, benchOf, ticksOf}
 use Rattle.dsp.specs.declared.registers.Dsp.{Dsp}
-use Rattle.log.specs.Log.{readAt, decodeFrom}
+use Rattle.log.specs.Log.{readAt, recordsFrom}
 use Rattle.log.specs.declared.Record.{Record}
 use Rattle.log.specs.declared.Record.the-variants.{Write, Ticks, Reading}
 use Rattle.log.specs.declared.Next.{Next}
@@ -110,10 +110,6 @@ pub record Rest : Type 0 where
 
 abbrev pub restIn : Run → Rest
 restIn x = record { pcm = x .bench .pcm; readings = x .readings; dsp = together (x .bench .parts); ram = x .bench .ram }
-
--- the log's records from a place on
-abbrev pub recordsFrom : List ℕ → ℕ → List Record
-recordsFrom log at = decodeFrom (length log + 1) log at .records
 
 -- the ticks that are left, then the records from the place on, played
 unfoldable pub restOf : Dsp → ℕ → ℕ → List ℕ → List ℕ → Rest

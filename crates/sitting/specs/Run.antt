@@ -1,6 +1,6 @@
 -- A run of a log from a record: its refusals in their order, and what it leaves (document 01, "Refusal numbers", "Log, sheet, program").
 use mathlib.Core.Bool.{_&&_}
-use mathlib.Core.List.{List, []}
+use mathlib.Core.List.{List}
 use Prim.Native.Nat.{ℕ, _*_}
 use lib.ListN.{length}
 use Rattle.numbers.specs.Choice.{if_then_else_, _=?_}
@@ -8,6 +8,7 @@ use Rattle.dsp.specs.Machine.{together}
 use Rattle.dsp.specs.Fit.{fit}
 use Rattle.dsp.specs.Tick.{everything}
 use Rattle.dsp.specs.declared.registers.Dsp.{Dsp}
+use Rattle.dsp.specs.declared.tick.Work.{Work}
 use Rattle.log.specs.Log.{decode}
 use Rattle.log.specs.Measure.{measureOf}
 use Rattle.log.specs.declared.Measured.{Measured}
@@ -42,18 +43,22 @@ ran m s =
       readings = s .readings;
     }
 
--- 10: PCM 4, sheet 36 bytes a tick, one byte a reading, exactly
-unfoldable pub runMeasured : Measured → Dsp → List ℕ → List ℕ → List ℕ → List ℕ → List ℕ → Outcome
-runMeasured m d ram log pcm sheet readings =
+-- 10: PCM 4, sheet 36 bytes a tick, one byte a reading, exactly. A lane that is not worked is shown from the sheet as it was found
+unfoldable pub runMeasured : Work → Measured → Dsp → List ℕ → List ℕ → List ℕ → List ℕ → List ℕ → Outcome
+runMeasured w m d ram log pcm sheet readings =
     if m .refusal =? 0 then
     (if (length pcm =? m .ticks * 4) && (length sheet =? m .ticks * 36) && (length readings =? m .readings) then
-    ran m (playAll everything (decode log .records) (starting d ram []))
+    ran m (playAll w (decode log .records) (starting d ram sheet))
     else refusedBy 10 d ram pcm sheet readings)
     else refusedBy (m .refusal) d ram pcm sheet readings
 
 -- 1: the RAM slice isn't 65,536 bytes; 2: the record is unfit; 3 to 9: the log's; then 10
-unfoldable pub runOf : Dsp → List ℕ → List ℕ → List ℕ → List ℕ → List ℕ → Outcome
-runOf d ram log pcm sheet readings =
+unfoldable pub runWith : Work → Dsp → List ℕ → List ℕ → List ℕ → List ℕ → List ℕ → Outcome
+runWith w d ram log pcm sheet readings =
     if length ram =? 0x10000 then
-    (if fit d then runMeasured (measureOf log) d ram log pcm sheet readings else refusedBy 2 d ram pcm sheet readings)
+    (if fit d then runMeasured w (measureOf log) d ram log pcm sheet readings else refusedBy 2 d ram pcm sheet readings)
     else refusedBy 1 d ram pcm sheet readings
+
+-- a run works every lane, and so does not see what stood in the sheet (`all-unseen`)
+abbrev pub runOf : Dsp → List ℕ → List ℕ → List ℕ → List ℕ → List ℕ → Outcome
+runOf d ram log pcm sheet readings = runWith everything d ram log pcm sheet readings

@@ -5,7 +5,7 @@ ghost use Prim.Native.Nat.{_*_, _≤_};
 ghost use Rattle.numbers.specs.Choice.{_=?_};
 ghost use Rattle.dsp.specs.Tick.{everything};
 ghost use Rattle.dsp.specs.Machine.{newDsp};
-ghost use Rattle.sitting.specs.Run.{Outcome, runOf};
+ghost use Rattle.sitting.specs.Run.{Outcome, runWith, runOf};
 use crate::play::play_all;
 use dsp::Dsp;
 use dsp::Work;
@@ -52,8 +52,10 @@ fn is_room(m: Measured, pcm: usize, sheet: usize, readings: usize) -> bool
     (pcm == t * 4) & (sheet == t * 36) & (readings == m.readings as usize)
 }
 
-// Runs a log. The whole log is checked before the first tick. Refuses 1, 2, 3, then 4 to 9, then 10.
-pub fn run(
+// Runs a log with some of the lanes; the others are shown from the sheet as it is lent. The whole log is checked before the first
+// tick. Refuses 1, 2, 3, then 4 to 9, then 10.
+pub fn run_with(
+    work: Work,
     start: Dsp,
     ram: &mut [u8],
     log: &[u8],
@@ -61,7 +63,7 @@ pub fn run(
     sheet: &mut [u8],
     readings: &mut [u8],
 ) -> Ran
-    ensures { λ r. ⌜ _≡_ {A = Outcome} (record { refusal = r .refusal; dsp = r .dsp; ticks = r .ticks; count = r .readings; ram = now (ram .exit); pcm = now (pcm .exit); sheet = now (sheet .exit); readings = now (readings .exit) }) (runOf start (now (ram .entry)) (now (log .entry)) (now (pcm .entry)) (now (sheet .entry)) (now (readings .entry))) ⌝ }
+    ensures { λ r. ⌜ _≡_ {A = Outcome} (record { refusal = r .refusal; dsp = r .dsp; ticks = r .ticks; count = r .readings; ram = now (ram .exit); pcm = now (pcm .exit); sheet = now (sheet .exit); readings = now (readings .exit) }) (runWith work start (now (ram .entry)) (now (log .entry)) (now (pcm .entry)) (now (sheet .entry)) (now (readings .entry))) ⌝ }
 {
     if ram.len() != RAM_SIZE {
         return refused(1, start);
@@ -76,13 +78,27 @@ pub fn run(
     if !is_room(m, pcm.len(), sheet.len(), readings.len()) {
         return refused(10, start);
     }
-    let d = play_all(everything(), start, ram, log, pcm, sheet, readings);
+    let d = play_all(work, start, ram, log, pcm, sheet, readings);
     Ran {
         refusal: 0,
         dsp: d,
         ticks: m.ticks,
         readings: m.readings,
     }
+}
+
+// A run works every lane. Refuses as `run_with` does.
+pub fn run(
+    start: Dsp,
+    ram: &mut [u8],
+    log: &[u8],
+    pcm: &mut [u8],
+    sheet: &mut [u8],
+    readings: &mut [u8],
+) -> Ran
+    ensures { λ r. ⌜ _≡_ {A = Outcome} (record { refusal = r .refusal; dsp = r .dsp; ticks = r .ticks; count = r .readings; ram = now (ram .exit); pcm = now (pcm .exit); sheet = now (sheet .exit); readings = now (readings .exit) }) (runOf start (now (ram .entry)) (now (log .entry)) (now (pcm .entry)) (now (sheet .entry)) (now (readings .entry))) ⌝ }
+{
+    run_with(everything(), start, ram, log, pcm, sheet, readings)
 }
 
 // The same from the power-on record. Refuses 1, 3, then 4 to 9, then 10.

@@ -1,0 +1,59 @@
+-- A rework that is not refused is its run of the set.
+use mathlib.Core.Bool.{Bool, not}
+use mathlib.Core.List.{List}
+use mathlib.Core.Logic.{_≢_}
+use mathlib.Core.Path.{_≡_, sym, ap, _∙_}
+use Prim.Native.Nat.{ℕ}
+use native.Mathlib.Omega.{arith}
+use lib.ListN.{length}
+use borrow.Author.Tests.{eqb-true, eq-eqb, ne-eqb, not-false}
+use Rattle.numbers.specs.Choice.{if_then_else_, _=?_}
+use Rattle.numbers.proofs.Choice.{tested}
+use Rattle.dsp.specs.Machine.{apart, together}
+use Rattle.dsp.specs.declared.registers.Dsp.{Dsp}
+use Rattle.sitting.specs.Run.{Outcome, runWith}
+use Rattle.rework.specs.Members.{voicesIn}
+use Rattle.rework.specs.Rework.{Left, endOf, refusalOf, setOf, only, reworked, reworkOf}
+
+-- the answer and the slices
+abbrev pub leaving : ℕ → Dsp → ℕ → ℕ → List ℕ → List ℕ → List ℕ → Left
+leaving k d a n sheet pcm readings = record { refusal = k; dsp = d; members = a; count = n; sheet = sheet; pcm = pcm; readings = readings }
+
+module _ (s : ℕ) (start end : Dsp) (ram log₁ log₂ : List ℕ) where
+  -- RAM has its length, where nothing is refused
+  pub ram-whole : refusalOf s start end ram log₁ log₂ ≡ 0 → length ram ≡ 0x10000
+  unfolding refusalOf
+  ram-whole =
+      tested (λ (k : ℕ). k ≡ 0 → length ram ≡ 0x10000) (not (length ram =? 0x10000)) (λ _ e. absurd (omega arith)) (λ f _. eqb-true _ _ (not-false _ f))
+
+  -- the run of the set, as far as it has come
+  pub record Done (sheet pcm readings : List ℕ) (a : ℕ) (o : Outcome) : Type 0 where
+    pub is : reworked a start end o ≡ reworkOf s start end ram log₁ log₂ sheet pcm readings
+
+  pub done : (sheet pcm readings : List ℕ) {k a : ℕ} {own : List ℕ} {o : Outcome} → k ≡ refusalOf s start end ram log₁ log₂ → k ≡ 0
+      → a ≡ (if k =? 0 then setOf s start log₂ else 0) → own ≡ ram → o ≡ runWith (only a) start own log₂ pcm sheet readings
+      → Done sheet pcm readings a o
+  unfolding reworkOf
+  done sheet pcm readings {k} {a} {own} {o} ek ez ea er eo =
+      let e : refusalOf s start end ram log₁ log₂ ≡ 0 = sym ek ∙ ez in
+      let es : a ≡ setOf s start log₂ = ea ∙ ap (λ (x : ℕ). if x =? 0 then setOf s start log₂ else 0) ez in
+      record {
+        is = rw (eq-eqb _ 0 e) (ap (reworked a start end) eo ∙ (λ i. reworked (es i) start end (runWith (only (es i)) start (er i) log₂ pcm sheet readings)));
+      }
+
+  module _ {sheet pcm readings : List ℕ} {a : ℕ} {o : Outcome} (h : Done sheet pcm readings a o) where
+    abbrev by : Bool → Left
+    by b =
+        if b then leaving 0 (together (endOf a (apart (o .dsp)) (apart end))) a (voicesIn a) (o .sheet) (o .pcm) (o .readings) else
+        leaving (o .refusal) start 0 0 (o .sheet) (o .pcm) (o .readings)
+
+    -- the run was refused, which leaves the slices as it found them
+    pub refused-run : {k m n : ℕ} {d : Dsp} → k ≡ o .refusal → d ≡ start → m ≡ 0 → n ≡ 0 → o .refusal ≢ 0
+        → leaving k d m n (o .sheet) (o .pcm) (o .readings) ≡ reworkOf s start end ram log₁ log₂ sheet pcm readings
+    refused-run ek ed em en z =
+        (λ i. leaving (ek i) (ed i) (em i) (en i) (o .sheet) (o .pcm) (o .readings)) ∙ sym (ap by (ne-eqb (o .refusal) 0 z)) ∙ h .is
+
+    pub whole-run : {n : ℕ} {d : Dsp} → o .refusal ≡ 0 → d ≡ together (endOf a (apart (o .dsp)) (apart end)) → n ≡ voicesIn a
+        → leaving 0 d a n (o .sheet) (o .pcm) (o .readings) ≡ reworkOf s start end ram log₁ log₂ sheet pcm readings
+    whole-run e ed en =
+        (λ i. leaving 0 (ed i) a (en i) (o .sheet) (o .pcm) (o .readings)) ∙ sym (ap by (eq-eqb (o .refusal) 0 e)) ∙ h .is

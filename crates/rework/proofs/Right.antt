@@ -1,0 +1,457 @@
+-- A rework over any old sheet that agrees outside the set gives the run of the same log: lane by lane, tick by tick, beat by beat.
+use mathlib.Core.Bool.{Bool, true, false}
+use mathlib.Core.List.{List, [], _∷_, _++_}
+use mathlib.Core.Path.{_≡_, refl, sym, ap, subst, _∙_}
+use Prim.Native.Nat.{ℕ, zero, suc, _+_, _*_, _/_, _%_, _≤_, _<_}
+use native.Mathlib.Omega.{arith}
+use borrow.Author.Count.{below-none, below-more}
+use lib.IntN.{ℤ, pos}
+use lib.ListN.{getD, set, drop, replicate, length, length-set, length-append, length-replicate}
+use Rattle.numbers.specs.Choice.{if_then_else_, _<?_, _=?_}
+use Rattle.numbers.specs.Signed.{cutZ}
+use Rattle.numbers.proofs.Choice.{chosen}
+use Rattle.sound.specs.Sound.{joined}
+use Rattle.dsp.specs.Machine.{noVoice, Parts, apart}
+use Rattle.dsp.specs.Registers.{at, turns, writeVoice, resets, silenced, silenceVoice, silenceAll, bytesAfter, voicesAfter, globWrite, writeParts}
+use Rattle.dsp.specs.Mix.{bit, masterOf}
+use Rattle.dsp.specs.Sheet.{pairBytes, laneBytes, laneAt}
+use Rattle.dsp.specs.Noise.{noiseTick}
+use Rattle.dsp.specs.Echo.{EchoLane, withEcho, echoNow, historyNow, echoMoved, echoWritten, echoTick, echoFrom, echoLane}
+use Rattle.dsp.specs.Lane.{Cell, cellAfter, cellOf, ownCell, shownCell, added, putBytes, landed, turned}
+use Rattle.dsp.specs.Fit.{FitGlob, Fit}
+use Rattle.dsp.specs.Tick.{Round, landing, turn, voicesTick, globTick, sharedFrom, sharedOf, everything, startOf, Ticked, frameOf, mixed, tickOf, benchTick}
+use Rattle.dsp.specs.declared.voice.Voice.{Voice}
+use Rattle.dsp.specs.declared.lane.Shared.{Shared}
+use Rattle.dsp.specs.declared.mix.Stereo.{Stereo}
+use Rattle.dsp.specs.declared.registers.Dsp.{Dsp}
+use Rattle.dsp.specs.declared.registers.Glob.{Glob}
+use Rattle.dsp.specs.declared.tick.Work.{Work}
+use Rattle.dsp.proofs.Turns.{turns-keep, set-keeps}
+use Rattle.dsp.proofs.Lanes.{fit-kept-either}
+use Rattle.dsp.proofs.Batches.{lane-part}
+use Rattle.dsp.proofs.Ticks.{RoundFit, BenchFit, fit-kept-turn, fit-kept-bench, fit-kept-bench-write}
+use Rattle.rework.specs.Differ.{Outside, Value}
+use Rattle.rework.proofs.Lanes.{lane-last}
+use Rattle.rework.proofs.Sixteen.{Is16, joined-halves, output16, fir16, noise16, sample16}
+use Rattle.rework.proofs.Tape.{Beat, put, tick, ask, Small, Quiet, modesIn, Tape, behindTick, tape, SameLanes, bare, Sim, Over, upon, Right}
+
+-- ---- two lists side by side
+
+-- what two choices by one test have in common
+chosen-both : {A : Type 0} (R : A → A → Type 0) (b : Bool) {x y u v : A} → R x u → R y v → R (if b then x else y) (if b then u else v)
+chosen-both R true p q = p
+chosen-both R false p q = q
+
+-- after a store into both at n
+set-both : {A : Type 0} (R : A → A → Type 0) (d : A) (xs ys : List A) (n : ℕ) (x y : A) → length xs ≡ length ys
+    → (m : ℕ) → (m ≡ n → R x y) → R (getD xs m d) (getD ys m d) → R (getD (set xs n x) m d) (getD (set ys n y) m d)
+set-both R d [] [] n x y e m p h = h
+set-both R d [] (w ∷ ys) n x y e m p h = absurd (omega arith)
+set-both R d (v ∷ xs) [] n x y e m p h = absurd (omega arith)
+set-both R d (v ∷ xs) (w ∷ ys) zero x y e zero p h = p refl
+set-both R d (v ∷ xs) (w ∷ ys) zero x y e (suc m) p h = h
+set-both R d (v ∷ xs) (w ∷ ys) (suc n) x y e zero p h = h
+set-both R d (v ∷ xs) (w ∷ ys) (suc n) x y e (suc m) p h = set-both R d xs ys n x y (omega arith) m (λ q. p (ap suc q)) h
+
+-- through turns of both
+turns-both : {A : Type 0} (R : A → A → Type 0) (f : ℕ → A → A) (k : ℕ) → ((n : ℕ) (x y : A) → n < k → R x y → R (f n x) (f n y))
+    → (n : ℕ) (x y : A) → n ≤ k → R x y → R (turns f n x) (turns f n y)
+unfolding turns
+turns-both R f k h zero x y l p = p
+turns-both R f k h (suc n) x y l p = h n (turns f n x) (turns f n y) (omega arith) (turns-both R f k h n x y (omega arith) p)
+
+-- the voices of a rework and of the run: the same in the set, and with the same volumes everywhere
+record Beside (a : ℕ) (vs ws : List Voice) : Type 0 where
+  count : length vs ≡ length ws
+  voices : (j : ℕ) → j < 8 → bit a j ≡ true → getD vs j noVoice ≡ getD ws j noVoice
+  lefts : (j : ℕ) → j < 8 → getD vs j noVoice .«left_vol» ≡ getD ws j noVoice .«left_vol»
+  rights : (j : ℕ) → j < 8 → getD vs j noVoice .«right_vol» ≡ getD ws j noVoice .«right_vol»
+
+beside-set : (a n : ℕ) (vs ws : List Voice) (v w : Voice) → Beside a vs ws → (bit a n ≡ true → v ≡ w) → v .«left_vol» ≡ w .«left_vol» → v .«right_vol» ≡ w .«right_vol»
+    → Beside a (set vs n v) (set ws n w)
+beside-set a n vs ws v w h e l r =
+    record {
+      count = length-set vs n v ∙ h .count ∙ sym (length-set ws n w);
+      voices = λ j m b. set-both _≡_ noVoice vs ws n v w (h .count) j (λ q. e (subst (λ (k : ℕ). bit a k ≡ true) q b)) (h .voices j m b);
+      lefts = λ j m. set-both (λ (x y : Voice). x .«left_vol» ≡ y .«left_vol») noVoice vs ws n v w (h .count) j (λ q. l) (h .lefts j m);
+      rights = λ j m. set-both (λ (x y : Voice). x .«right_vol» ≡ y .«right_vol») noVoice vs ws n v w (h .count) j (λ q. r) (h .rights j m);
+    }
+
+-- ---- a register write
+
+beside-write : (a i x : ℕ) (vs ws : List Voice) → i < 128 → Beside a vs ws → Beside a (voicesAfter i x vs) (voicesAfter i x ws)
+unfolding silenceAll silenceVoice
+beside-write a i x vs ws l h =
+    let n = i / 16 in
+    let m : n < 8 = omega arith in
+    chosen-both (Beside a) (i % 16 <? 8)
+    (beside-set a n vs ws _ _ h (λ b. ap (writeVoice (i % 16) x) (h .voices n m b)) (λ k. at (i % 16) 0 (cutZ 0x80 (pos x)) (h .lefts n m k)) (λ k. at (i % 16) 1 (cutZ 0x80 (pos x)) (h .rights n m k)))
+    (chosen-both (Beside a) (resets i x)
+    (turns-both (Beside a) silenceVoice 8 (λ j us zs k g. beside-set a j us zs _ _ g (λ b. ap silenced (g .voices j k b)) (g .lefts j k) (g .rights j k)) 8 vs ws (omega arith) h)
+    h)
+
+-- ---- one lane
+
+-- two cells that show the same
+record Shows (x y : Cell) : Type 0 where
+  out : x .out ≡ y .out
+  envx : x .envx ≡ y .envx
+  endx : x .endx ≡ y .endx
+  left : x .voice .«left_vol» ≡ y .voice .«left_vol»
+  right : x .voice .«right_vol» ≡ y .voice .«right_vol»
+
+abbrev slotOf : Cell → List ℕ
+slotOf x = laneBytes (x .out) (x .envx) (x .endx)
+
+endx-read : (b : Bool) → ((if b then 1 else 0) % 2 =? 1) ≡ b
+endx-read true = refl
+endx-read false = refl
+
+-- a lane of the sheet shows the cell that it was made of
+shown-read : (y : Cell) (v : Voice) (delay : ℕ) → Is16 (y .out) → v .«left_vol» ≡ y .voice .«left_vol» → v .«right_vol» ≡ y .voice .«right_vol»
+    → Shows (shownCell (slotOf y) v delay) y
+unfolding shownCell laneBytes
+shown-read y v delay h l r = record { out = joined-halves (y .out) h; envx = refl; endx = endx-read (y .endx); left = l; right = r }
+
+-- the cell that the run's voice j comes to
+abbrev cellIn : Shared → List ℕ → ℕ → Round → Cell
+cellIn c ram j s = ownCell c ram j (s .acc .prev) (getD (s .voices) j noVoice) (getD (s .delays) j 0) (s .bytes)
+
+volumes-kept : (c : Shared) (ram : List ℕ) (j : ℕ) (s : Round)
+    → (getD (s .voices) j noVoice .«left_vol» ≡ cellIn c ram j s .voice .«left_vol») × (getD (s .voices) j noVoice .«right_vol» ≡ cellIn c ram j s .voice .«right_vol»)
+unfolding ownCell cellOf cellAfter
+volumes-kept c ram j s = (refl, refl)
+
+-- a rework's round beside the run's
+record Abreast (a : ℕ) (r s : Round) : Type 0 where
+  beside : Beside a (r .voices) (s .voices)
+  waits : length (r .delays) ≡ length (s .delays)
+  delays : (j : ℕ) → j < 8 → bit a j ≡ true → getD (r .delays) j 0 ≡ getD (s .delays) j 0
+  bytes : r .bytes ≡ s .bytes
+  acc : r .acc ≡ s .acc
+  row : r .row ≡ s .row
+
+-- cells that show the same leave the rounds abreast
+land-both : (a j : ℕ) (w : Bool) (c : Shared) (r s : Round) (old new : List ℕ) (x y : Cell) → Abreast a r s → Shows x y → (bit a j ≡ true → x ≡ y)
+    → (if w then slotOf x else old) ≡ slotOf y
+    → Abreast a (landing j r (landed w c j (r .acc) (r .bytes) old x)) (landing j s (landed true c j (s .acc) (s .bytes) new y))
+land-both a j w c r s old new x y h e q z =
+    record {
+      beside = beside-set a j (r .voices) (s .voices) (x .voice) (y .voice) (h .beside) (λ b k. q b k .voice) (e .left) (e .right);
+      waits = length-set (r .delays) j (x .delay) ∙ h .waits ∙ sym (length-set (s .delays) j (y .delay));
+      delays = λ n l b. set-both _≡_ 0 (r .delays) (s .delays) j (x .delay) (y .delay) (h .waits) n (λ m k. q (subst (λ (i : ℕ). bit a i ≡ true) m b) k .delay) (h .delays n l b);
+      bytes = λ k. putBytes j (e .envx k) (e .out k) (e .endx k) (h .bytes k);
+      acc = λ k. added (bit (c .eon) j) (e .out k) (e .left k) (e .right k) (h .acc k);
+      row = λ k. h .row k ++ z k;
+    }
+
+-- a voice of the set is worked by both; of another the rework shows what the run comes to
+lane-both : (a j : ℕ) (w : Bool) (c : Shared) (ram : List ℕ) (r s : Round) (old new : List ℕ) → bit a j ≡ w → j < 8 → Abreast a r s → Is16 (cellIn c ram j s .out)
+    → (Outside a j → old ≡ slotOf (cellIn c ram j s))
+    → Abreast a (landing j r (turned w c ram j (getD (r .voices) j noVoice) (getD (r .delays) j 0) (r .acc) (r .bytes) old))
+    (landing j s (turned true c ram j (getD (s .voices) j noVoice) (getD (s .delays) j 0) (s .acc) (s .bytes) new))
+unfolding turned
+lane-both a j true c ram r s old new b l h o f =
+    let x = cellIn c ram j r in
+    let y = cellIn c ram j s in
+    let e : x ≡ y = (λ k. ownCell c ram j (h .acc k .prev) (h .beside .voices j l b k) (h .delays j l b k) (h .bytes k)) in
+    land-both a j true c r s old new x y h
+    (record { out = λ k. e k .out; envx = λ k. e k .envx; endx = λ k. e k .endx; left = λ k. e k .voice .«left_vol»; right = λ k. e k .voice .«right_vol» })
+    (λ _. e) (λ k. slotOf (e k))
+lane-both a j false c ram r s old new b l h o f =
+    let v = getD (r .voices) j noVoice in
+    let d = getD (r .delays) j 0 in
+    let y = cellIn c ram j s in
+    let k = volumes-kept c ram j s in
+    let g = shown-read y v d o (h .beside .lefts j l ∙ k .0) (h .beside .rights j l ∙ k .1) in
+    land-both a j false c r s old new (shownCell old v d) y h (subst (λ (z : List ℕ). Shows (shownCell z v d) y) (sym (f b)) g)
+    (λ t. let z : _≡_ {A = ℕ} 0 1 = cc in absurd (omega arith)) (f b)
+
+-- ---- the run's rounds
+
+-- the mask of all eight
+abbrev Has : ℕ → Type 0
+Has j = bit 0xFF j ≡ true
+
+full8 : (j : ℕ) → j < 8 → Has j
+full8 =
+    below-more Has 7
+    (below-more Has 6 (below-more Has 5 (below-more Has 4 (below-more Has 3 (below-more Has 2 (below-more Has 1 (below-more Has 0 (below-none Has) refl) refl) refl) refl) refl) refl) refl)
+    refl
+
+-- every voice's sample has 16 bits
+abbrev Samples16 : List Voice → Type 0
+Samples16 vs = (j : ℕ) → j < 8 → Is16 (getD vs j noVoice .«current_sample»)
+
+sample-set : (vs : List Voice) (n : ℕ) (v : Voice) → Is16 (v .«current_sample») → Samples16 vs → Samples16 (set vs n v)
+sample-set vs n v h k j l = set-keeps (λ (v : Voice). Is16 (v .«current_sample»)) noVoice vs n v h j (k j l)
+
+-- fit, and with samples of 16 bits
+pub record Sound (s : Round) : Type 0 where
+  pub fit : RoundFit s
+  pub samples : Samples16 (s .voices)
+
+sound-turn : (mask : ℕ) (old : List ℕ) (c : Shared) (ram : List ℕ) → Is16 (c .noise) → (j : ℕ) (s : Round) → j < 8 → Sound s → Sound (turn mask old c ram j s)
+unfolding turn turned
+sound-turn mask old c ram n j s l h =
+    let v = getD (s .voices) j noVoice in
+    let d = getD (s .delays) j 0 in
+    record {
+      fit = fit-kept-turn mask old c ram j s l (h .fit);
+      samples = sample-set (s .voices) j _ (sample16 (bit mask j) c ram j (s .acc .prev) v d (s .bytes) (laneAt j old) n (h .samples j l)) (h .samples);
+    }
+
+sound-turns : (mask : ℕ) (old : List ℕ) (c : Shared) (ram : List ℕ) → Is16 (c .noise) → (n : ℕ) (s : Round) → n ≤ 8 → Sound s → Sound (turns (turn mask old c ram) n s)
+sound-turns mask old c ram n = turns-keep Sound (turn mask old c ram) 8 (sound-turn mask old c ram n)
+
+-- what a sound voice puts out has 16 bits
+out16 : (c : Shared) (ram : List ℕ) (j : ℕ) (s : Round) → Is16 (c .noise) → j < 8 → Sound s → Is16 (cellIn c ram j s .out)
+unfolding ownCell cellOf cellAfter
+out16 c ram j s n l h =
+    let v = getD (s .voices) j noVoice in
+    let d = getD (s .delays) j 0 in
+    let x = cellIn c ram j s .voice in
+    let f = fit-kept-either true c ram j (s .acc .prev) v d (s .bytes) [] (h .fit .voices j l) (h .fit .delays j l) in
+    output16 (x .adsr .«envelope_phase») (x .adsr .«envelope_level») (x .«current_sample») (f .voice .adsr .level)
+    (sample16 true c ram j (s .acc .prev) v d (s .bytes) [] n (h .samples j l))
+
+-- a turn puts its lane behind the row
+row-more : (o : List ℕ) (c : Shared) (ram : List ℕ) (j : ℕ) (s : Round) → j < 8 → turn 0xFF o c ram j s .row ≡ s .row ++ slotOf (cellIn c ram j s)
+unfolding turn turned
+row-more o c ram j s l = rw (full8 j l)
+
+row-wide : (o : List ℕ) (c : Shared) (ram : List ℕ) (n : ℕ) (s : Round) → n ≤ 8 → length (turns (turn 0xFF o c ram) n s .row) ≡ length (s .row) + n * 4
+unfolding turns laneBytes
+row-wide o c ram zero s l = omega arith
+row-wide o c ram (suc n) s l =
+    let t = turns (turn 0xFF o c ram) n s in
+    let e = row-wide o c ram n s (omega arith) in
+    ap length (row-more o c ram n t (omega arith)) ∙ length-append (t .row) (slotOf (cellIn c ram n t)) ∙ omega (arith, e)
+
+-- ---- the voices of a tick
+
+turn-both : (a : ℕ) (old o : List ℕ) (c : Shared) (ram : List ℕ) (j : ℕ) (r s : Round) → Is16 (c .noise) → j < 8 → Sound s → Abreast a r s
+    → (Outside a j → laneAt j old ≡ slotOf (cellIn c ram j s)) → Abreast a (turn a old c ram j r) (turn 0xFF o c ram j s)
+unfolding turn
+turn-both a old o c ram j r s n l g h f = rw (full8 j l) (lane-both a j (bit a j) c ram r s (laneAt j old) (laneAt j o) refl l h (out16 c ram j s n l g) f)
+
+-- over a sheet that has the run's lanes outside the set
+turns-abreast : (a : ℕ) (old o : List ℕ) (c : Shared) (ram : List ℕ) (r s : Round) → Is16 (c .noise) → Sound s → Abreast a r s → s .row ≡ [] → (n : ℕ) → n ≤ 8
+    → ((j : ℕ) → j < n → Outside a j → laneAt j old ≡ laneAt j (turns (turn 0xFF o c ram) n s .row))
+    → Abreast a (turns (turn a old c ram) n r) (turns (turn 0xFF o c ram) n s)
+unfolding turns laneBytes
+turns-abreast a old o c ram r s m g h z zero l f = h
+turns-abreast a old o c ram r s m g h z (suc n) l f =
+    let t = turns (turn 0xFF o c ram) n s in
+    let y = slotOf (cellIn c ram n t) in
+    let e = row-more o c ram n t (omega arith) in
+    let k : length (t .row) ≡ n * 4 = row-wide o c ram n s (omega arith) ∙ omega (arith, ap length z) in
+    turn-both a old o c ram n (turns (turn a old c ram) n r) t m (omega arith) (sound-turns 0xFF o c ram m n s (omega arith) g)
+    (turns-abreast a old o c ram r s m g h z n (omega arith) (λ j i b. f j (omega arith) b ∙ ap (laneAt j) e ∙ lane-part j (t .row) y (omega (arith, k))))
+    (λ b. f n (omega arith) b ∙ ap (laneAt n) e ∙ lane-last n (t .row) y k refl)
+
+-- ---- what is needed of the run's parts
+
+pub record Good (p : Parts) : Type 0 where
+  pub round : Sound (startOf p)
+  pub glob : FitGlob (p .glob)
+
+pub good-start : (d : Dsp) → Value (apart d) → Fit d → Good (apart d)
+good-start d v f =
+    record {
+      round = record { fit = record { bytes = v .registers; count = v .voices; waits = v .delays; voices = f .voices; delays = f .delays }; samples = v .samples };
+      glob = f .glob;
+    }
+
+good-bench : (p : Parts) (ram old : List ℕ) → length ram ≡ 0x10000 → Good p → BenchFit (record { parts = p; ram = ram; pcm = []; sheet = []; old = old })
+good-bench p ram old l g = record { ram = l; round = g .round .fit; glob = g .glob }
+
+-- what all voices see of the noise
+shared16 : (g : Glob) (bytes : List ℕ) → Is16 (sharedOf g bytes .noise)
+unfolding sharedFrom
+shared16 g bytes = noise16 (noiseTick (g .flg) (g .noise))
+
+-- what a tick leaves
+pub good-tick : (w : Work) (old : List ℕ) (p : Parts) (ram : List ℕ) → length ram ≡ 0x10000 → Good p → Good (tickOf w old p ram .parts)
+unfolding benchTick tickOf voicesTick
+good-tick w old p ram l g =
+    let k = fit-kept-bench w (record { parts = p; ram = ram; pcm = []; sheet = []; old = old }) (good-bench p ram old l g) in
+    let t = sound-turns (w .voices) old (sharedOf (p .glob) (p .registers)) ram (shared16 (p .glob) (p .registers)) 8 (startOf p) (omega arith) (g .round) in
+    record { round = record { fit = k .round; samples = t .samples }; glob = k .glob }
+
+-- what a write leaves
+pub good-write : (i x : ℕ) (p : Parts) → i < 128 → x < 256 → Good p → Good (writeParts i x p)
+unfolding writeParts silenceAll silenceVoice
+good-write i x p l m g =
+    let k = fit-kept-bench-write i x _ l m (good-bench p (replicate 0x10000 0) [] (length-replicate {A = ℕ} 0x10000 0) g) in
+    let h = g .round .samples in
+    record {
+      round =
+          record {
+            fit = k .round;
+            samples =
+                chosen Samples16 (i % 16 <? 8) (sample-set (p .voices) (i / 16) _ (h (i / 16) (omega arith)) h)
+                (chosen Samples16 (resets i x) (turns-keep Samples16 silenceVoice 8 (λ n vs b c. sample-set vs n _ (c n b) c) 8 (p .voices) (omega arith) h) h);
+          };
+      glob = k .glob;
+    }
+
+-- ---- a register write keeps a rework's parts beside the run's
+
+-- the voices of both
+sim-beside : (a : ℕ) (p q : Parts) → Sim a p q → Good q → Beside a (p .voices) (q .voices)
+sim-beside a p q h g = record { count = h .count ∙ sym (g .round .fit .count); voices = h .voices; lefts = h .lefts; rights = h .rights }
+
+sim-write : (a i x : ℕ) (p q : Parts) → i < 128 → Sim a p q → Good q → Good (writeParts i x q) → Sim a (writeParts i x p) (writeParts i x q)
+unfolding writeParts
+sim-write a i x p q l h g k =
+    let b = beside-write a i x (p .voices) (q .voices) l (sim-beside a p q h g) in
+    record {
+      bytes = ap (bytesAfter i x) (h .bytes);
+      count = b .count ∙ k .round .fit .count;
+      waits = h .waits;
+      voices = b .voices;
+      lefts = b .lefts;
+      rights = b .rights;
+      delays = h .delays;
+      glob = ap (globWrite i x) (h .glob);
+    }
+
+-- ---- a tick
+
+-- the numbers without the echo's, after both ticks
+globs-both : (g k : Glob) (slot : List ℕ) (l r : ℤ) → bare g ≡ bare k → bare (echoFrom slot (globTick g)) ≡ bare (echoMoved (globTick k) l r)
+unfolding echoFrom echoMoved globTick
+globs-both g k slot l r e = ap globTick e
+
+shared-both : (g k : Glob) (x y : List ℕ) → bare g ≡ bare k → x ≡ y → sharedOf g x ≡ sharedOf k y
+unfolding sharedFrom
+shared-both g k x y e d = λ i. sharedOf (e i) (d i)
+
+-- the stereo sample is of the echo's output and of numbers that are not the echo's
+masters-both : (g k : Glob) (s t : Stereo) → bare g ≡ bare k → g .«echo_out_l» ≡ k .«echo_out_l» → g .«echo_out_r» ≡ k .«echo_out_r» → s ≡ t → masterOf g s ≡ masterOf k t
+unfolding masterOf
+masters-both g k s t e l r d = λ i. masterOf (withEcho (e i) 0 0 (l i) (r i)) (d i)
+
+echo16 : (g : Glob) (ram : List ℕ) (k : ℕ) (taps history : List ℤ) → Is16 (echoNow g ram k taps history)
+unfolding echoNow
+echo16 g ram k taps history = fir16 (historyNow g ram k history) taps
+
+-- what a rework's tick t has of the run's u
+record Same (a : ℕ) (ram : List ℕ) (t u : Ticked) : Type 0 where
+  parts : Sim a (t .parts) (u .parts)
+  frame : t .frame ≡ u .frame
+  row : t .row ≡ u .row
+  left : t .ram ≡ ram
+  right : u .ram ≡ ram
+
+-- echo and mix: the echo's lane of the old sheet is the run's
+mixed-both : (a : ℕ) (slot found : List ℕ) (p q : Parts) (ram : List ℕ) (r s : Round) → bare (p .glob) ≡ bare (q .glob) → bit (q .glob .flg) 5 ≡ true → RoundFit s → Abreast a r s
+    → slot ≡ echoLane true (globTick (q .glob)) (q .taps) (q .left) (q .right) ram (s .acc .input) found .slot
+    → Same a ram (mixed (p .taps) r (echoLane false (globTick (p .glob)) (p .taps) (p .left) (p .right) ram (r .acc .input) slot))
+    (mixed (q .taps) s (echoLane true (globTick (q .glob)) (q .taps) (q .left) (q .right) ram (s .acc .input) found))
+unfolding echoLane echoTick echoFrom echoMoved echoWritten globTick pairBytes
+mixed-both a slot found p q ram r s e b f h z =
+    let k = globTick (q .glob) in
+    let l = echoNow k ram 0 (q .taps) (q .left) in
+    let m = echoNow k ram 2 (q .taps) (q .right) in
+    let g = globs-both (p .glob) (q .glob) slot l m e in
+    record {
+      parts =
+          record {
+            bytes = h .bytes;
+            count = h .beside .count ∙ f .count;
+            waits = h .waits ∙ f .waits;
+            voices = h .beside .voices;
+            lefts = h .beside .lefts;
+            rights = h .beside .rights;
+            delays = h .delays;
+            glob = g;
+          };
+      frame =
+          ap frameOf
+          (masters-both (echoFrom slot (globTick (p .glob))) (echoMoved k l m) (r .acc .dry) (s .acc .dry) g
+          (ap (λ (x : List ℕ). joined (getD x 0 0) (getD x 1 0)) z ∙ joined-halves l (echo16 k ram 0 (q .taps) (q .left)))
+          (ap (λ (x : List ℕ). joined (getD x 2 0) (getD x 3 0)) z ∙ joined-halves m (echo16 k ram 2 (q .taps) (q .right)))
+          (λ i. h .acc i .dry));
+      row = λ i. h .row i ++ z i;
+      left = refl;
+      right = rw b;
+    }
+
+-- the whole tick, over a row that has the run's lanes outside the set and the echo's
+tick-both : (a : ℕ) (old o : List ℕ) (p q : Parts) (ram : List ℕ) → Sim a p q → Good q → bit (q .glob .flg) 5 ≡ true → SameLanes a old (tickOf everything o q ram .row)
+    → Same a ram (tickOf (record { voices = a; echo = false }) old p ram) (tickOf everything o q ram)
+unfolding tickOf voicesTick echoLane pairBytes
+tick-both a old o p q ram h g b f =
+    let c = sharedOf (q .glob) (q .registers) in
+    let d = sharedOf (p .glob) (p .registers) in
+    let s = turns (turn 0xFF o c ram) 8 (startOf q) in
+    let slot = echoLane true (globTick (q .glob)) (q .taps) (q .left) (q .right) ram (s .acc .input) (laneAt 8 o) .slot in
+    let n = shared16 (q .glob) (q .registers) in
+    let k : length (s .row) ≡ 32 = row-wide o c ram 8 (startOf q) (omega arith) in
+    let y : Abreast a (startOf p) (startOf q) =
+    record { beside = sim-beside a p q h g; waits = h .waits ∙ sym (g .round .fit .waits); delays = h .delays; bytes = h .bytes; acc = refl; row = refl } in
+    let u = turns-abreast a old o c ram (startOf p) (startOf q) n (g .round) y refl 8 (omega arith) (λ j l x. f j (omega arith) (λ _. x) ∙ lane-part j (s .row) slot (omega (arith, k))) in
+    let t = subst (λ (x : Shared). Abreast a (turns (turn a old x ram) 8 (startOf p)) s) (sym (shared-both (p .glob) (q .glob) (p .registers) (q .registers) (h .glob) (h .bytes))) u in
+    mixed-both a (laneAt 8 old) (laneAt 8 o) p q ram (turns (turn a old d ram) 8 (startOf p)) s (h .glob) b (sound-turns 0xFF o c ram n 8 (startOf q) (omega arith) (g .round) .fit) t
+    (f 8 (omega arith) (λ l. absurd (omega arith)) ∙ lane-last 8 (s .row) slot k refl)
+
+-- ---- a log
+
+-- a tick keeps the two fields that decide
+modes-tick : (w : Work) (old : List ℕ) (p : Parts) (ram : List ℕ) → modesIn (tickOf w old p ram .parts .glob) ≡ modesIn (p .glob)
+unfolding tickOf echoLane echoTick echoMoved echoFrom globTick
+modes-tick w old p ram = chosen (λ (e : EchoLane). modesIn (e .echo .glob) ≡ modesIn (p .glob)) (w .echo) refl refl
+
+over-first : {a : ℕ} {old r : List ℕ} {rs : List (List ℕ)} → Over a old (r ∷ rs) → SameLanes a old r × Over a (drop 36 old) rs
+over-first (upon s h) = (s, h)
+
+-- a tick that is the run's, before a rest that is the run's
+ticks-right : (a : ℕ) (ram : List ℕ) (t u : Ticked) (x y : List ℕ → Tape) → Same a ram t u → Right a (x ram) (y ram) → Right a (behindTick t (x (t .ram))) (behindTick u (y (u .ram)))
+ticks-right a ram t u x y s h =
+    let k : Right a (x (t .ram)) (y (u .ram)) = subst (λ (m : List ℕ). Right a (x m) (y (u .ram))) (sym (s .left)) (subst (λ (m : List ℕ). Right a (x ram) (y m)) (sym (s .right)) h) in
+    record { frames = λ i. s .frame i ∷ k .frames i; rows = λ i. s .row i ∷ k .rows i; readings = k .readings; parts = k .parts }
+
+-- beat by beat
+pub right : (a : ℕ) (bs : List Beat) (o old : List ℕ) (p q : Parts) (ram : List ℕ) → length ram ≡ 0x10000 → Small bs → Sim a p q → Good q
+    → Quiet bs (modesIn (q .glob)) → Over a old (tape everything bs o q ram .rows)
+    → Right a (tape (record { voices = a; echo = false }) bs old p ram) (tape everything bs o q ram)
+unfolding tape Small Quiet writeParts
+right a [] o old p q ram l m h g k v = record { frames = refl; rows = refl; readings = refl; parts = h }
+right a (put i x ∷ bs) o old p q ram l m h g k v =
+    let n = good-write i x q (m .0) (m .1) g in
+    right a bs o old (writeParts i x p) (writeParts i x q) ram l (m .2) (sim-write a i x p q (m .0) h g n) n k v
+right a (tick ∷ bs) o old p q ram l m h g k v =
+    let w : Work = record { voices = a; echo = false } in
+    let t = tickOf w old p ram in
+    let u = tickOf everything o q ram in
+    let f = over-first v in
+    let s = tick-both a old o p q ram h g (k .0) (f .0) in
+    let r = right a bs (drop 36 o) (drop 36 old) (t .parts) (u .parts) ram l m (s .parts) (good-tick everything o q ram l g)
+    (subst (Quiet bs) (sym (modes-tick everything o q ram)) (k .1))
+    (subst (λ (n : List ℕ). Over a (drop 36 old) (tape everything bs (drop 36 o) (u .parts) n .rows)) (s .right) (f .1)) in
+    ticks-right a ram t u (λ n. tape w bs (drop 36 old) (t .parts) n) (λ n. tape everything bs (drop 36 o) (u .parts) n) s r
+right a (ask i ∷ bs) o old p q ram l m h g k v =
+    let r = right a bs o old p q ram l m h g k v in
+    record { frames = r .frames; rows = r .rows; readings = λ n. getD (h .bytes n) i 0 ∷ r .readings n; parts = r .parts }
+
+-- ---- the rows of a run
+
+row-36 : (o : List ℕ) (q : Parts) (ram : List ℕ) → length (tickOf everything o q ram .row) ≡ 36
+unfolding tickOf voicesTick echoLane pairBytes
+row-36 o q ram =
+    let c = sharedOf (q .glob) (q .registers) in
+    let e = row-wide o c ram 8 (startOf q) (omega arith) in
+    length-append (turns (turn 0xFF o c ram) 8 (startOf q) .row) _ ∙ omega (arith, e)
+
+unfoldable pub Sized36 : List (List ℕ) → Type 0
+Sized36 [] = Unit {0}
+Sized36 (r ∷ rs) = (length r ≡ 36) × Sized36 rs
+
+pub rows-36 : (bs : List Beat) (o : List ℕ) (q : Parts) (ram : List ℕ) → Sized36 (tape everything bs o q ram .rows)
+unfolding tape Sized36
+rows-36 [] o q ram = tt
+rows-36 (put i x ∷ bs) o q ram = rows-36 bs o (writeParts i x q) ram
+rows-36 (tick ∷ bs) o q ram = let t = tickOf everything o q ram in (row-36 o q ram, rows-36 bs (drop 36 o) (t .parts) (t .ram))
+rows-36 (ask i ∷ bs) o q ram = rows-36 bs o q ram

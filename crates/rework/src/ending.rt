@@ -1,0 +1,104 @@
+// The end record: the old one, with the voice records, key-on delays, registers $j0 .. $j9 and ENDX bits of the set replaced.
+ghost use mathlib.Core.Path.{_≡_};
+ghost use Prim.Native.Nat.{_<_};
+ghost use lib.ListN.{length};
+ghost use Rattle.numbers.specs.Choice.{if_then_else_};
+ghost use Rattle.dsp.specs.Machine.{noVoice, apart, together};
+ghost use Rattle.rework.specs.Rework.{picked, ownBytes, pickBytes, pickedBytes, endOf};
+use crate::sets::bit;
+use crate::sets::with_bit;
+use dsp::Dsp;
+use dsp::Voice;
+
+fn voice_of(on: bool, new: Voice, old: Voice) -> Voice
+    ensures { λ r. ⌜ r ≡ (if on then new else old) ⌝ }
+{
+    if on { new } else { old }
+}
+
+fn delay_of(on: bool, new: u8, old: u8) -> u8
+    ensures { λ r. ⌜ r ≡ (if on then new else old) ⌝ }
+{
+    if on { new } else { old }
+}
+
+fn pick_voices(set: u8, new: [Voice; 8], old: [Voice; 8]) -> [Voice; 8]
+    ensures { λ r. ⌜ r ≡ picked noVoice set new old ⌝ }
+{
+    let mut voices = old;
+    let mut j: usize = 0;
+    while j < 8 {
+        let v = new[j];
+        let w = voices[j];
+        let x = voice_of(bit(set, j), v, w);
+        voices[j] = x;
+        j += 1;
+    }
+    voices
+}
+
+fn pick_delays(set: u8, new: [u8; 8], old: [u8; 8]) -> [u8; 8]
+    ensures { λ r. ⌜ r ≡ picked 0 set new old ⌝ }
+{
+    let mut delays = old;
+    let mut j: usize = 0;
+    while j < 8 {
+        delays[j] = delay_of(bit(set, j), new[j], delays[j]);
+        j += 1;
+    }
+    delays
+}
+
+// $j0 to $j9 of voice j.
+fn own_bytes(j: usize, new: &[u8], bytes: &mut [u8])
+    requires { ⌜ (j < 8) × (length (now new) ≡ 128) × (length (now bytes) ≡ 128) ⌝ }
+    ensures { λ r. ⌜ now (bytes .exit) ≡ ownBytes j (now (new .entry)) (now (bytes .entry)) ⌝ }
+{
+    let mut k: usize = 0;
+    while k < 10 {
+        bytes[j * 16 + k] = new[j * 16 + k];
+        k += 1;
+    }
+}
+
+fn pick_own(set: u8, new: &[u8], j: usize, bytes: &mut [u8])
+    requires { ⌜ (j < 8) × (length (now new) ≡ 128) × (length (now bytes) ≡ 128) ⌝ }
+    ensures { λ r. ⌜ now (bytes .exit) ≡ pickBytes set (now (new .entry)) j (now (bytes .entry)) ⌝ }
+{
+    if !bit(set, j) {
+        return;
+    }
+    own_bytes(j, new, bytes);
+    let endx = bytes[0x7C];
+    bytes[0x7C] = with_bit(endx, j, bit(new[0x7C], j));
+}
+
+fn pick_bytes(set: u8, new: &[u8], bytes: &mut [u8])
+    requires { ⌜ (length (now new) ≡ 128) × (length (now bytes) ≡ 128) ⌝ }
+    ensures { λ r. ⌜ now (bytes .exit) ≡ pickedBytes set (now (new .entry)) (now (bytes .entry)) ⌝ }
+{
+    let mut j: usize = 0;
+    while j < 8 {
+        pick_own(set, new, j, bytes);
+        j += 1;
+    }
+}
+
+pub(crate) fn end_of(set: u8, new: Dsp, old: Dsp) -> Dsp
+    ensures { λ r. ⌜ r ≡ together (endOf set (apart new) (apart old)) ⌝ }
+{
+    let mut d = old;
+    let from = new.registers;
+    let mut bytes = old.registers;
+    pick_bytes(set, &from, &mut bytes);
+    d.registers = bytes;
+    let vs = new.voices;
+    let ws = old.voices;
+    let voices = pick_voices(set, vs, ws);
+    d.voices = voices;
+    let ds = new.kon_delay;
+    let es = old.kon_delay;
+    let delays = pick_delays(set, ds, es);
+    d.kon_delay = delays;
+    d
+}
