@@ -1,16 +1,16 @@
 // The program `bench` (document 01): the log on standard input, RAM from ram.bin, the samples to out.pcm, the readings
 // on standard output. What cannot be read or written is named on standard error, and no END line follows: a program of
 // this language has no exit status of its own.
-mod input;
-mod lines;
 mod running;
 
 ghost use Prim.Native.Nat.{_≤_};
 ghost use lib.ListN.{length};
-use input::Loaded;
-use input::Took;
-use lines::complain;
 use log::Measured;
+use report::input;
+use report::input::Loaded;
+use report::input::Took;
+use report::lines;
+use report::lines::complain;
 use running::Ran;
 
 const LOG_MOST: usize = 60000;

@@ -4,7 +4,7 @@ use mathlib.Core.Path.{sym, subst}
 use native.Mathlib.Omega.{arith}
 use lib.ListN.{length-append}
 use lib.Seq.{length-take-le}
-use Rattle.bench.specs.Input.{Within}
+use Rattle.report.specs.Input.{Within}
 use Rattle.bench.proofs.with_ram.Statement.{statement}
 use Rattle.bench.proofs.with_ram.Tie as tie
 

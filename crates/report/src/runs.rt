@@ -1,0 +1,103 @@
+// A log run whole, with slices exactly as long as it needs, and what that gives.
+ghost use Prim.Native.Nat.{_≤_};
+use crate::digest::EMPTY;
+use crate::digest::with_bytes;
+use crate::left::Left;
+use crate::lines;
+use dsp::Dsp;
+use log::Next;
+use log::Record;
+use log::measure;
+use log::read;
+use sitting::Ran;
+use sitting::run;
+use sitting::run_new;
+
+pub fn least(a: usize, b: usize) -> usize
+    ensures { λ r. ⌜ r ≤ b ⌝ }
+{
+    if a < b { a } else { b }
+}
+
+// From `new` by `run_new`, or from a record by `run`. Lends what the log needs; were there less, the run would refuse by 10.
+pub fn run_cut(
+    of_new: bool,
+    start: Dsp,
+    ram: &mut [u8],
+    log: &[u8],
+    pcm: &mut [u8],
+    sheet: &mut [u8],
+    readings: &mut [u8],
+) -> Ran {
+    let m = measure(log);
+    let ticks = m.ticks as usize;
+    let p = least(ticks * 4, pcm.len());
+    let s = least(ticks * 36, sheet.len());
+    let q = least(m.readings as usize, readings.len());
+    run_on(
+        of_new,
+        start,
+        ram,
+        log,
+        &mut pcm[..p],
+        &mut sheet[..s],
+        &mut readings[..q],
+    )
+}
+
+fn run_on(
+    of_new: bool,
+    start: Dsp,
+    ram: &mut [u8],
+    log: &[u8],
+    pcm: &mut [u8],
+    sheet: &mut [u8],
+    readings: &mut [u8],
+) -> Ran {
+    if of_new {
+        return run_new(ram, log, pcm, sheet, readings);
+    }
+    run(start, ram, log, pcm, sheet, readings)
+}
+
+// Of what was lent, what a run with such an answer was lent and has filled.
+pub fn tell(r: Ran, log: &[u8], ram: &[u8], pcm: &[u8], sheet: &[u8], readings: &[u8]) -> Left {
+    let ticks = r.ticks as usize;
+    let p = least(ticks * 4, pcm.len());
+    let s = least(ticks * 36, sheet.len());
+    let q = least(r.readings as usize, readings.len());
+    tell_cut(r, log, ram, &pcm[..p], &sheet[..s], &readings[..q])
+}
+
+fn tell_cut(r: Ran, log: &[u8], ram: &[u8], pcm: &[u8], sheet: &[u8], readings: &[u8]) -> Left {
+    let d = r.dsp;
+    let left = Left::by(d, ram, with_bytes(EMPTY, pcm), with_bytes(EMPTY, readings));
+    if r.refusal != 0 {
+        lines::refused(r.refusal);
+        return left;
+    }
+    tell_readings(log, readings);
+    lines::end(r.ticks as u64, r.readings as u64);
+    lines::registers(d);
+    lines::digest(b"RAM ", left.ram);
+    lines::digest(b"PCM ", left.pcm);
+    lines::digest(b"SHEET ", with_bytes(EMPTY, sheet));
+    left
+}
+
+// The register from the log, the value from the readings.
+fn tell_readings(log: &[u8], readings: &[u8]) {
+    let mut told: usize = 0;
+    let mut at: usize = 0;
+    while told < readings.len() {
+        let Next::On { found, at: behind } = read(log, at) else {
+            return;
+        };
+        if let Record::Reading { register } = found {
+            let value = readings[told];
+            told += 1;
+            lines::reading(told as u64, register, value);
+        }
+        at = behind;
+    }
+}
