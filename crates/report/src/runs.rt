@@ -19,7 +19,72 @@ pub fn least(a: usize, b: usize) -> usize
     if a < b { a } else { b }
 }
 
-// From `new` by `run_new`, or from a record by `run`. Lends what the log needs; were there less, the run would refuse by 10.
+// What a run left, and its refusal or 0.
+pub struct Whole {
+    pub refusal: u8,
+    pub dsp: Dsp,
+    pub left: Left,
+}
+
+// From `new` by `run_new`, or from a record by `run`; told or not. Room for any log: 32,000 ticks with 4 bytes of PCM and 36 of
+// sheet each, 20,000 readings with 3 bytes of the log each.
+pub fn run_whole(of_new: bool, told: bool, start: Dsp, log: &[u8], ram: &mut [u8]) -> Whole {
+    let mut pcm = [0; 128000];
+    let mut sheet = [0; 1152000];
+    let mut readings = [0; 20000];
+    run_in(
+        of_new,
+        told,
+        start,
+        log,
+        ram,
+        &mut pcm,
+        &mut sheet,
+        &mut readings,
+    )
+}
+
+// Behind a reference an array's length is its type's, and no check has to count a million bytes.
+fn run_in(
+    of_new: bool,
+    told: bool,
+    start: Dsp,
+    log: &[u8],
+    ram: &mut [u8],
+    pcm: &mut [u8; 128000],
+    sheet: &mut [u8; 1152000],
+    readings: &mut [u8; 20000],
+) -> Whole {
+    run_told(of_new, told, start, log, ram, pcm, sheet, readings)
+}
+
+fn run_told(
+    of_new: bool,
+    told: bool,
+    start: Dsp,
+    log: &[u8],
+    ram: &mut [u8],
+    pcm: &mut [u8],
+    sheet: &mut [u8],
+    readings: &mut [u8],
+) -> Whole {
+    let r = run_cut(of_new, start, ram, log, pcm, sheet, readings);
+    let d = r.dsp;
+    if told {
+        return Whole {
+            refusal: r.refusal,
+            dsp: d,
+            left: tell(r, log, ram, pcm, sheet, readings),
+        };
+    }
+    Whole {
+        refusal: r.refusal,
+        dsp: d,
+        left: Left::by(d, ram, EMPTY, EMPTY),
+    }
+}
+
+// Lends what the log needs; were there less, the run would refuse by 10.
 pub fn run_cut(
     of_new: bool,
     start: Dsp,

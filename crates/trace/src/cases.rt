@@ -1,11 +1,12 @@
 // The file of cases: the number of a RAM image, the log's length (16 bits, low byte first), the log; and so on.
 ghost use Prim.Native.Nat.{_<_};
 use crate::ticks::run_ticks;
-use crate::whole::run_whole;
+use dsp::Dsp;
 use report::cases::image;
 use report::cases::stored_log;
 use report::lines::numbered;
 use report::lines::say;
+use report::runs::run_whole;
 
 // A file may have no end, as a device has none: no more cases than these are read.
 const CASES_MOST: u64 = 1000;
@@ -62,7 +63,7 @@ fn case(number: u8, log: &[u8])
     let mut ram = [0u8; 65537];
     let n = image(number, &mut ram);
     let mut again = ram;
-    let w = run_whole(log, &mut ram[..n]);
+    let w = run_whole(true, true, Dsp::new(), log, &mut ram[..n]);
     if w.refusal == 0 {
         let left = w.left;
         run_ticks(log, &mut again[..n], left);

@@ -3,7 +3,6 @@
 // cases.
 mod cases;
 mod ticks;
-mod whole;
 
 use report::lines;
 
