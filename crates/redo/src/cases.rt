@@ -77,7 +77,7 @@ fn with_old(fd: i32, asked: Asked, from: Dsp, start: Dsp) -> bool
 {
     let mut log = io::large_buffer();
     let found = stored_log(fd, &mut log);
-    if found.stops {
+    if found.failed {
         return stops();
     }
     let n = found.size;
@@ -89,7 +89,7 @@ fn with_new(fd: i32, asked: Asked, from: Dsp, start: Dsp, old: &[u8]) -> bool
 {
     let mut log = io::large_buffer();
     let found = stored_log(fd, &mut log);
-    if found.stops {
+    if found.failed {
         return stops();
     }
     let n = found.size;
@@ -114,7 +114,7 @@ fn run_next(fd: i32, ram: u8, of_new: bool, told: bool, start: Dsp) -> Back
 {
     let mut log = io::large_buffer();
     let found = stored_log(fd, &mut log);
-    if found.stops {
+    if found.failed {
         return Back {
             stops: true,
             dsp: start,

@@ -1,13 +1,9 @@
 // What a file of cases holds: numbers of RAM images, and logs, each behind its length (16 bits, low byte first).
-ghost use mathlib.Core.Path.{_≡_};
 ghost use Prim.Native.Nat.{_<_};
 ghost use Rattle.io.specs.Counts.{Counts};
+use crate::input::Took;
+use crate::input::none;
 use log::word;
-
-pub struct Stored {
-    pub stops: bool,
-    pub size: usize,
-}
 
 // How many bytes the image has, up to the one more than RAM has that shows it to be too long. A missing image has none.
 pub fn image(number: u8, ram: &mut [u8]) -> usize
@@ -24,32 +20,23 @@ pub fn image(number: u8, ram: &mut [u8]) -> usize
     got
 }
 
-// How long the log is that now stands at the start of the buffer, or that the file stops inside it.
-pub fn stored_log(fd: i32, buf: &mut [u8]) -> Stored
+// A log of the file; it fails where the file stops inside it.
+pub fn stored_log(fd: i32, buf: &mut [u8]) -> Took
     ensures { λ r. ⌜ Counts (r .size) (now (buf .exit)) ⌝ }
 {
     let mut head = [0u8; 2];
     if io::read_full(fd, &mut head) < 2 {
-        return stopped();
+        return none();
     }
     let n = word(head[0], head[1]) as usize;
     if n > buf.len() {
-        return stopped();
+        return none();
     }
     if io::read_full(fd, &mut buf[..n]) < n {
-        return stopped();
+        return none();
     }
-    Stored {
-        stops: false,
+    Took {
+        failed: false,
         size: n,
-    }
-}
-
-fn stopped() -> Stored
-    ensures { λ r. ⌜ r .size ≡ 0 ⌝ }
-{
-    Stored {
-        stops: true,
-        size: 0,
     }
 }

@@ -1,12 +1,13 @@
 // What a program reads: bytes of a descriptor or a file, and RAM from ram.bin.
-
+ghost use mathlib.Core.Path.{_≡_};
+ghost use Prim.Native.Nat.{_≤_};
 ghost use lib.ListN.{length};
-ghost use Rattle.report.specs.Input.{Within};
+ghost use Rattle.io.specs.Counts.{Counts};
 
-// So many bytes at the start of a buffer, or a read that failed.
-pub enum Took {
-    Bytes(usize),
-    Failed,
+// So many bytes at the start of a buffer; and whether a read failed, or the input ended too soon.
+pub struct Took {
+    pub failed: bool,
+    pub size: usize,
 }
 
 pub enum Loaded {
@@ -15,41 +16,60 @@ pub enum Loaded {
     Unreadable,
 }
 
+pub(crate) fn none() -> Took
+    ensures { λ r. ⌜ r .size ≡ 0 ⌝ }
+{
+    Took {
+        failed: true,
+        size: 0,
+    }
+}
+
 // One read; 0 bytes at the input's end.
 fn some(fd: i32, buf: &mut [u8]) -> Took
-    ensures { λ r. ⌜ Within (length (now (buf .entry))) r ⌝ }
+    ensures { λ r. ⌜ r .size ≤ length (now (buf .entry)) ⌝ }
 {
     let got = libc::read(fd, buf);
     if got < 0 {
-        return Took::Failed;
+        return none();
     }
-    Took::Bytes(io::count(got, buf))
+    Took {
+        failed: false,
+        size: io::count(got, buf),
+    }
 }
 
 // Reads until the buffer is full or the input ends.
 pub fn fill(fd: i32, buf: &mut [u8]) -> Took
-    ensures { λ r. ⌜ Within (length (now (buf .entry))) r ⌝ }
+    ensures { λ r. ⌜ Counts (r .size) (now (buf .exit)) ⌝ }
 {
     let mut done: usize = 0;
     while done < buf.len() {
-        let Took::Bytes(n) = some(fd, &mut buf[done..]) else {
-            return Took::Failed;
-        };
-        if n == 0 {
-            return Took::Bytes(done);
+        let took = some(fd, &mut buf[done..]);
+        if took.failed {
+            return none();
         }
-        done += n;
+        if took.size == 0 {
+            return Took {
+                failed: false,
+                size: done,
+            };
+        }
+        done += took.size;
     }
-    Took::Bytes(done)
+    Took {
+        failed: false,
+        size: done,
+    }
 }
 
 // The first bytes of a file, at most as many as the buffer has.
 pub fn file(name: &[u8], buf: &mut [u8]) -> Took
-    ensures { λ r. ⌜ Within (length (now (buf .entry))) r ⌝ }
+    ensures { λ r. ⌜ Counts (r .size) (now (buf .exit)) ⌝ }
 {
     let fd = os::open_read(name);
     if fd < 0 {
-        return Took::Failed;
+        return none();
     }
     let took = fill(fd, buf);
     libc::close(fd);
@@ -72,20 +92,20 @@ pub fn load(ram: &mut [u8]) -> Loaded {
 
 // One byte more is asked for, to see that there is none.
 fn image(fd: i32, ram: &mut [u8]) -> Loaded {
-    let Took::Bytes(got) = fill(fd, ram) else {
+    let took = fill(fd, ram);
+    if took.failed {
         return Loaded::Unreadable;
-    };
-    if got < ram.len() {
+    }
+    if took.size < ram.len() {
         return Loaded::OtherLength;
     }
     let mut more = [0u8; 1];
-    match fill(fd, &mut more) {
-        Took::Bytes(n) => {
-            if n == 0 {
-                return Loaded::Whole;
-            }
-            Loaded::OtherLength
-        }
-        Took::Failed => Loaded::Unreadable,
+    let behind = fill(fd, &mut more);
+    if behind.failed {
+        return Loaded::Unreadable;
     }
+    if behind.size == 0 {
+        return Loaded::Whole;
+    }
+    Loaded::OtherLength
 }

@@ -42,7 +42,7 @@ fn with_log(fd: i32, number: u64, ram: u8) -> bool
 {
     let mut log = io::large_buffer();
     let found = stored_log(fd, &mut log);
-    if found.stops {
+    if found.failed {
         return stops();
     }
     let n = found.size;
