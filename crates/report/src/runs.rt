@@ -1,5 +1,6 @@
 // A log run whole, with slices exactly as long as it needs, and what that gives.
 ghost use Prim.Native.Nat.{_≤_};
+ghost use Rattle.io.specs.Counts.{Counts};
 use crate::digest::EMPTY;
 use crate::digest::with_bytes;
 use crate::left::Left;
@@ -14,7 +15,7 @@ use sitting::run;
 use sitting::run_new;
 
 pub fn least(a: usize, b: usize) -> usize
-    ensures { λ r. ⌜ r ≤ b ⌝ }
+    ensures { λ r. ⌜ (r ≤ a) × (r ≤ b) ⌝ }
 {
     if a < b { a } else { b }
 }
@@ -141,7 +142,9 @@ fn tell_cut(r: Ran, log: &[u8], ram: &[u8], pcm: &[u8], sheet: &[u8], readings: 
         lines::refused(r.refusal);
         return left;
     }
-    tell_readings(log, readings);
+    let mut registers = [0u8; 20000];
+    let n = registers_read(log, &mut registers);
+    tell_readings(&registers[..n], readings);
     lines::end(r.ticks as u64, r.readings as u64);
     lines::registers(d);
     lines::digest(b"RAM ", left.ram);
@@ -150,19 +153,30 @@ fn tell_cut(r: Ran, log: &[u8], ram: &[u8], pcm: &[u8], sheet: &[u8], readings: 
     left
 }
 
-// The register from the log, the value from the readings.
-fn tell_readings(log: &[u8], readings: &[u8]) {
-    let mut told: usize = 0;
+// The registers of a log's readings, in their order, as many as there is room for.
+pub fn registers_read(log: &[u8], to: &mut [u8]) -> usize
+    ensures { λ r. ⌜ Counts r (now (to .exit)) ⌝ }
+{
+    let mut put: usize = 0;
     let mut at: usize = 0;
-    while told < readings.len() {
+    while put < to.len() {
         let Next::On { found, at: behind } = read(log, at) else {
-            return;
+            return put;
         };
         if let Record::Reading { register } = found {
-            let value = readings[told];
-            told += 1;
-            lines::reading(told as u64, register, value);
+            to[put] = register;
+            put += 1;
         }
         at = behind;
+    }
+    put
+}
+
+fn tell_readings(registers: &[u8], readings: &[u8]) {
+    let n = least(registers.len(), readings.len());
+    let mut i: usize = 0;
+    while i < n {
+        lines::reading(i as u64 + 1, registers[i], readings[i]);
+        i += 1;
     }
 }
