@@ -27,7 +27,7 @@ use Rattle.dsp.proofs.Fits.{facts-fit}
 abbrev Has : ℕ → Type 0
 Has j = bit 0xFF j ≡ true
 
-full : (j : ℕ) → j < 8 → Has j
+pub full : (j : ℕ) → j < 8 → bit 0xFF j ≡ true
 full =
     below-more Has 7
     (below-more Has 6 (below-more Has 5 (below-more Has 4 (below-more Has 3 (below-more Has 2 (below-more Has 1 (below-more Has 0 (below-none Has) refl) refl) refl) refl) refl) refl) refl)

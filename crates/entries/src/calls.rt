@@ -58,6 +58,17 @@ fn written(d: Dsp) {
     verdict(b" record", same_record(d, e));
 }
 
+// The same write on the record of a local that is lent.
+fn written_lent(d: Dsp) {
+    let a = lent::write_owned(d, 0x0C, 0x7F);
+    let e = a.dsp;
+    let b = d.write_reg(0x0C, 0x7F);
+    let f = b.dsp;
+    number(b", write_reg_lent ", a.refusal as u64);
+    verdict(b" record", same_record(d, e));
+    verdict(b" and by value", same_record(e, f));
+}
+
 // 16 bits, two's complement.
 fn sample(x: i16) {
     let high = numbers::high(x) as u64;
@@ -75,6 +86,7 @@ fn rendered(d: Dsp) {
 pub fn called(d: Dsp) {
     stepped(d, RAM_SIZE);
     written(d);
+    written_lent(d);
     rendered(d);
     say(b"\n");
 }

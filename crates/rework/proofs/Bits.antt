@@ -69,11 +69,6 @@ all-at f (suc n) e k l =
       | no p ↦ all-at f n (t .1) k (omega arith)
     ]
 
--- the mask of all eight
-pub full8 : (j : ℕ) → j < 8 → bit 0xFF j ≡ true
-unfolding all
-full8 = all-at (bit 0xFF) 8 refl
-
 -- bytes of which bit n is x and each other is y
 table : (byte : ℕ → ℕ) (x y : ℕ) → all (λ (n : ℕ). all (λ (k : ℕ). digit (byte n) k =? (if k =? n then x else y)) 8) 8 ≡ true
     → (n k : ℕ) → n < 8 → k < 8 → digit (byte n) k ≡ (if k =? n then x else y)

@@ -21,7 +21,7 @@ use Rattle.dsp.specs.Noise.{noiseTick}
 use Rattle.dsp.specs.Mix.{bit}
 use Rattle.dsp.specs.Sheet.{pairBytes, laneBytes, laneAt}
 use Rattle.dsp.specs.Lane.{settingsOf, delayOf, waited, sourceOf, Cell, polledOf, waitedOf, cellAfter, cellOf, withBit, putBytes, added, landed, ownCell, turned}
-use Rattle.dsp.specs.Echo.{Echo, EchoLane, echoWritten, echoMoved, echoTick, echoLane}
+use Rattle.dsp.specs.Echo.{Echo, EchoLane, echoWritten, echoTick, echoLane}
 use Rattle.dsp.specs.Tick.{Round, landing, turn, voicesTick, globTick, sharedFrom, sharedOf, everything, startOf, Ticked, tickOf}
 use Rattle.dsp.specs.declared.voice.Voice.{Voice}
 use Rattle.dsp.specs.declared.play.Source.the-variants.{Unmodulated, From}
@@ -29,6 +29,7 @@ use Rattle.dsp.specs.declared.lane.Shared.{Shared}
 use Rattle.dsp.specs.declared.mix.Stereo.{Stereo}
 use Rattle.dsp.specs.declared.registers.Glob.{Glob}
 use Rattle.dsp.specs.declared.tick.Work.{Work}
+use Rattle.dsp.proofs.Whole.{full}
 use Rattle.dsp.proofs.Turns.{turns-keep}
 use Rattle.dsp.proofs.Tests.{lt, _and_}
 use Rattle.dsp.proofs.Batches.{lane-part}
@@ -36,9 +37,9 @@ use Rattle.rework.specs.declared.modes.Modes.{Modes}
 use Rattle.rework.specs.Alike.{named}
 use Rattle.rework.specs.Members.{modesAfter, joinedBy}
 use Rattle.rework.specs.Differ.{Outside, SameBytes, SameBut}
-use Rattle.rework.proofs.Bits.{itself, unless, full8, bit-here, bit-there, joined-more, joined-closed}
+use Rattle.rework.proofs.Bits.{itself, unless, bit-here, bit-there, joined-more, joined-closed}
 use Rattle.rework.proofs.Lanes.{lane-last}
-use Rattle.rework.proofs.Tape.{Beat, put, tick, ask, Small, keep, modesIn, Quiet, joins, behindTick, tape, SameLanes, Rows, none, more, Kept}
+use Rattle.rework.proofs.Tape.{Beat, put, tick, ask, Small, keep, modesIn, Quiet, joins, behindTick, tape, modes-tick, SameLanes, Rows, none, more, Kept}
 
 -- ---- lengths
 
@@ -80,7 +81,7 @@ sized-tick w old p ram h =
 -- ---- two runs side by side
 
 -- what each turn keeps between them
-turns-both : {A B : Type 0} (R : ℕ → A → B → Type 0) (f : ℕ → A → A) (g : ℕ → B → B) (k : ℕ) → ((n : ℕ) (a : A) (b : B) → n < k → R n a b → R (suc n) (f n a) (g n b))
+pub turns-both : {A B : Type 0} (R : ℕ → A → B → Type 0) (f : ℕ → A → A) (g : ℕ → B → B) (k : ℕ) → ((n : ℕ) (a : A) (b : B) → n < k → R n a b → R (suc n) (f n a) (g n b))
     → (n : ℕ) (a : A) (b : B) → n ≤ k → R 0 a b → R n (turns f n a) (turns g n b)
 unfolding turns
 turns-both R f g k h zero a b l p = p
@@ -348,7 +349,7 @@ cellIn c ram n r = ownCell c ram n (r .acc .prev) (getD (r .voices) n noVoice) (
 
 turn-own : (old : List ℕ) (c : Shared) (ram : List ℕ) (n : ℕ) (r : Round) → n < 8 → turn 0xFF old c ram n r ≡ landingOwn c n r (cellIn c ram n r)
 unfolding turn turned
-turn-own old c ram n r l = rw (full8 n l)
+turn-own old c ram n r l = rw (full n l)
 
 beside-turn : (a : ℕ) (c : Shared) (ram o₁ o₂ : List ℕ) (p q : Parts) (n : ℕ) (r s : Round) → n < 8 → Closed a (c .pmon) → Beside a c p q n r s
     → Beside a c p q (suc n) (turn 0xFF o₁ c ram n r) (turn 0xFF o₂ c ram n s)
@@ -370,11 +371,6 @@ beside-turn a c ram o₁ o₂ p q n r s l h b =
 ram-kept : (w : Work) (old : List ℕ) (p : Parts) (ram : List ℕ) → bit (p .glob .flg) 5 ≡ true → tickOf w old p ram .ram ≡ ram
 unfolding tickOf echoLane echoTick echoWritten globTick
 ram-kept w old p ram e = chosen (λ (x : EchoLane). x .echo .ram ≡ ram) (w .echo) (rw e) refl
-
--- the two fields that decide are as they were
-modes-kept : (old : List ℕ) (p : Parts) (ram : List ℕ) → modesIn (tickOf everything old p ram .parts .glob) ≡ modesIn (p .glob)
-unfolding tickOf echoLane echoTick echoMoved globTick
-modes-kept old p ram = refl
 
 -- what all voices see
 shared-same : (a : ℕ) (p q : Parts) → SameBut a p q → sharedOf (p .glob) (p .registers) ≡ sharedOf (q .glob) (q .registers)
@@ -464,7 +460,7 @@ kept s (tick ∷ bs) a o₁ o₂ p q ram m h k w e t =
     let c = joins bs (modesIn (p .glob)) b in
     kept-behind c bs (keep s bs) (drop 36 o₁) (drop 36 o₂) ram x y (ram-kept everything o₁ p ram (t .0)) (ram-kept everything o₂ q ram (rw (← (e .glob)) (t .0)))
     (lanes-mono b c (x .row) (y .row) (joins-more bs (modesIn (p .glob)) b) (z .lanes))
-    (subst (λ (n : Modes). Quiet bs n → Kept (joins bs n b) ram (tape everything bs (drop 36 o₁) (x .parts) ram) (tape everything (keep s bs) (drop 36 o₂) (y .parts) ram)) (modes-kept o₁ p ram)
+    (subst (λ (n : Modes). Quiet bs n → Kept (joins bs n b) ram (tape everything bs (drop 36 o₁) (x .parts) ram) (tape everything (keep s bs) (drop 36 o₂) (y .parts) ram)) (modes-tick everything o₁ p ram)
     (kept s bs b (drop 36 o₁) (drop 36 o₂) (x .parts) (y .parts) ram m (sized-tick everything o₁ p ram h) (sized-tick everything o₂ q ram k) (λ j l n. joined-more pmon a j l (w j l n)) (z .parts)) (t .1))
 kept s (ask r ∷ bs) a o₁ o₂ p q ram m h k w e t =
     let z = kept s bs a o₁ o₂ p q ram m h k w e t in

@@ -4,6 +4,16 @@ pub mod Tape
 pub mod Sixteen
 pub mod Right
 pub mod Kept
+pub mod Ends
 pub mod Stays
 pub mod Walks
 pub mod Reworks
+pub mod Taped
+pub mod Sheets
+pub mod Beats
+pub mod Taken
+pub mod Keeps
+pub mod Demand1
+pub mod Demand2
+pub mod Demand3
+pub mod Instance

@@ -4,7 +4,6 @@ use mathlib.Core.List.{List, [], _∷_, _++_}
 use mathlib.Core.Path.{_≡_, refl, sym, ap, subst, _∙_}
 use Prim.Native.Nat.{ℕ, zero, suc, _+_, _*_, _/_, _%_, _≤_, _<_}
 use native.Mathlib.Omega.{arith}
-use borrow.Author.Count.{below-none, below-more}
 use lib.IntN.{ℤ, pos}
 use lib.ListN.{getD, set, drop, replicate, length, length-set, length-append, length-replicate}
 use Rattle.numbers.specs.Choice.{if_then_else_, _<?_, _=?_}
@@ -16,7 +15,7 @@ use Rattle.dsp.specs.Registers.{at, turns, writeVoice, resets, silenced, silenc
 use Rattle.dsp.specs.Mix.{bit, masterOf}
 use Rattle.dsp.specs.Sheet.{pairBytes, laneBytes, laneAt}
 use Rattle.dsp.specs.Noise.{noiseTick}
-use Rattle.dsp.specs.Echo.{EchoLane, withEcho, echoNow, historyNow, echoMoved, echoWritten, echoTick, echoFrom, echoLane}
+use Rattle.dsp.specs.Echo.{withEcho, echoNow, historyNow, echoMoved, echoWritten, echoTick, echoFrom, echoLane}
 use Rattle.dsp.specs.Lane.{Cell, cellAfter, cellOf, ownCell, shownCell, added, putBytes, landed, turned}
 use Rattle.dsp.specs.Fit.{FitGlob, Fit}
 use Rattle.dsp.specs.Tick.{Round, landing, turn, voicesTick, globTick, sharedFrom, sharedOf, everything, startOf, Ticked, frameOf, mixed, tickOf, benchTick}
@@ -26,6 +25,7 @@ use Rattle.dsp.specs.declared.mix.Stereo.{Stereo}
 use Rattle.dsp.specs.declared.registers.Dsp.{Dsp}
 use Rattle.dsp.specs.declared.registers.Glob.{Glob}
 use Rattle.dsp.specs.declared.tick.Work.{Work}
+use Rattle.dsp.proofs.Whole.{full}
 use Rattle.dsp.proofs.Turns.{turns-keep, set-keeps}
 use Rattle.dsp.proofs.Lanes.{fit-kept-either}
 use Rattle.dsp.proofs.Batches.{lane-part}
@@ -33,7 +33,7 @@ use Rattle.dsp.proofs.Ticks.{RoundFit, BenchFit, fit-kept-turn, fit-kept-bench,
 use Rattle.rework.specs.Differ.{Outside, Value}
 use Rattle.rework.proofs.Lanes.{lane-last}
 use Rattle.rework.proofs.Sixteen.{Is16, joined-halves, output16, fir16, noise16, sample16}
-use Rattle.rework.proofs.Tape.{Beat, put, tick, ask, Small, Quiet, modesIn, Tape, behindTick, tape, SameLanes, bare, Sim, Over, upon, Right}
+use Rattle.rework.proofs.Tape.{Beat, put, tick, ask, Small, Quiet, modesIn, Tape, behindTick, tape, modes-tick, SameLanes, bare, Sim, Over, upon, Right}
 
 -- ---- two lists side by side
 
@@ -169,16 +169,6 @@ lane-both a j false c ram r s old new b l h o f =
 
 -- ---- the run's rounds
 
--- the mask of all eight
-abbrev Has : ℕ → Type 0
-Has j = bit 0xFF j ≡ true
-
-full8 : (j : ℕ) → j < 8 → Has j
-full8 =
-    below-more Has 7
-    (below-more Has 6 (below-more Has 5 (below-more Has 4 (below-more Has 3 (below-more Has 2 (below-more Has 1 (below-more Has 0 (below-none Has) refl) refl) refl) refl) refl) refl) refl)
-    refl
-
 -- every voice's sample has 16 bits
 abbrev Samples16 : List Voice → Type 0
 Samples16 vs = (j : ℕ) → j < 8 → Is16 (getD vs j noVoice .«current_sample»)
@@ -218,7 +208,7 @@ out16 c ram j s n l h =
 -- a turn puts its lane behind the row
 row-more : (o : List ℕ) (c : Shared) (ram : List ℕ) (j : ℕ) (s : Round) → j < 8 → turn 0xFF o c ram j s .row ≡ s .row ++ slotOf (cellIn c ram j s)
 unfolding turn turned
-row-more o c ram j s l = rw (full8 j l)
+row-more o c ram j s l = rw (full j l)
 
 row-wide : (o : List ℕ) (c : Shared) (ram : List ℕ) (n : ℕ) (s : Round) → n ≤ 8 → length (turns (turn 0xFF o c ram) n s .row) ≡ length (s .row) + n * 4
 unfolding turns laneBytes
@@ -233,7 +223,7 @@ row-wide o c ram (suc n) s l =
 turn-both : (a : ℕ) (old o : List ℕ) (c : Shared) (ram : List ℕ) (j : ℕ) (r s : Round) → Is16 (c .noise) → j < 8 → Sound s → Abreast a r s
     → (Outside a j → laneAt j old ≡ slotOf (cellIn c ram j s)) → Abreast a (turn a old c ram j r) (turn 0xFF o c ram j s)
 unfolding turn
-turn-both a old o c ram j r s n l g h f = rw (full8 j l) (lane-both a j (bit a j) c ram r s (laneAt j old) (laneAt j o) refl l h (out16 c ram j s n l g) f)
+turn-both a old o c ram j r s n l g h f = rw (full j l) (lane-both a j (bit a j) c ram r s (laneAt j old) (laneAt j o) refl l h (out16 c ram j s n l g) f)
 
 -- over a sheet that has the run's lanes outside the set
 turns-abreast : (a : ℕ) (old o : List ℕ) (c : Shared) (ram : List ℕ) (r s : Round) → Is16 (c .noise) → Sound s → Abreast a r s → s .row ≡ [] → (n : ℕ) → n ≤ 8
@@ -398,11 +388,6 @@ tick-both a old o p q ram h g b f =
     (f 8 (omega arith) (λ l. absurd (omega arith)) ∙ lane-last 8 (s .row) slot k refl)
 
 -- ---- a log
-
--- a tick keeps the two fields that decide
-modes-tick : (w : Work) (old : List ℕ) (p : Parts) (ram : List ℕ) → modesIn (tickOf w old p ram .parts .glob) ≡ modesIn (p .glob)
-unfolding tickOf echoLane echoTick echoMoved echoFrom globTick
-modes-tick w old p ram = chosen (λ (e : EchoLane). modesIn (e .echo .glob) ≡ modesIn (p .glob)) (w .echo) refl refl
 
 over-first : {a : ℕ} {old r : List ℕ} {rs : List (List ℕ)} → Over a old (r ∷ rs) → SameLanes a old r × Over a (drop 36 old) rs
 over-first (upon s h) = (s, h)

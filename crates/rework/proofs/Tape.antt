@@ -1,17 +1,18 @@
 -- A log as single beats, and what a play of them puts out, tick by tick; and the relations that the two halves of demand 3 keep.
 use mathlib.Core.Bool.{true}
 use mathlib.Core.List.{List, [], _∷_}
-use mathlib.Core.Path.{_≡_}
+use mathlib.Core.Path.{_≡_, refl}
 use Prim.Native.Nat.{ℕ, zero, suc, _<_}
 use lib.IntN.{pos}
 use lib.ListN.{getD, drop, length}
 use Rattle.numbers.specs.Choice.{if_then_else_}
+use Rattle.numbers.proofs.Choice.{chosen}
 use Rattle.dsp.specs.Machine.{noVoice, Parts}
 use Rattle.dsp.specs.Registers.{writeParts}
 use Rattle.dsp.specs.Mix.{bit}
 use Rattle.dsp.specs.Sheet.{laneAt}
-use Rattle.dsp.specs.Echo.{withEcho}
-use Rattle.dsp.specs.Tick.{Ticked, tickOf}
+use Rattle.dsp.specs.Echo.{withEcho, EchoLane, echoMoved, echoTick, echoFrom, echoLane}
+use Rattle.dsp.specs.Tick.{Ticked, globTick, tickOf}
 use Rattle.dsp.specs.declared.registers.Glob.{Glob}
 use Rattle.dsp.specs.declared.tick.Work.{Work}
 use Rattle.log.specs.declared.Record.{Record}
@@ -93,6 +94,11 @@ tape w (put i x ∷ bs) old p ram = tape w bs old (writeParts i x p) ram
 tape w (tick ∷ bs) old p ram =
     behindTick (tickOf w old p ram) (tape w bs (drop 36 old) (tickOf w old p ram .parts) (tickOf w old p ram .ram))
 tape w (ask r ∷ bs) old p ram = behindReading (getD (p .registers) r 0) (tape w bs old p ram)
+
+-- a tick changes neither of the two fields that decide
+pub modes-tick : (w : Work) (old : List ℕ) (p : Parts) (ram : List ℕ) → modesIn (tickOf w old p ram .parts .glob) ≡ modesIn (p .glob)
+unfolding tickOf echoLane echoTick echoMoved echoFrom globTick
+modes-tick w old p ram = chosen (λ (e : EchoLane). modesIn (e .echo .glob) ≡ modesIn (p .glob)) (w .echo) refl refl
 
 -- ---- a run and the run of its log without the named voices' own writes
 

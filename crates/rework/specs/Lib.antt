@@ -2,3 +2,4 @@ pub mod Alike
 pub mod Members
 pub mod Differ
 pub mod Rework
+pub mod Demands

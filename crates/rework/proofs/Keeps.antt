@@ -1,0 +1,99 @@
+-- What ticks and writes keep, a play keeps; and so a run ends in a fit record whose ENDX byte is a byte.
+use mathlib.Core.Bool.{true}
+use mathlib.Core.List.{List, [], _∷_}
+use mathlib.Core.Logic.{_≢_}
+use mathlib.Core.Path.{_≡_, sym, subst, _∙_}
+use Prim.Native.Nat.{ℕ, _+_, _*_, _<_}
+use native.Mathlib.Omega.{arith}
+use lib.ListN.{getD, set, length, drop}
+use lib.Seq.{getD-set-other}
+use Rattle.numbers.specs.Choice.{if_then_else_, _=?_}
+use Rattle.numbers.specs.Signed.{highZ}
+use Rattle.numbers.proofs.Choice.{chosen}
+use Rattle.dsp.specs.Machine.{noVoice, Parts, apart, together}
+use Rattle.dsp.specs.Fit.{fit}
+use Rattle.dsp.specs.Registers.{at, resets, writeParts}
+use Rattle.dsp.specs.Mix.{bit}
+use Rattle.dsp.specs.Sheet.{laneAt}
+use Rattle.dsp.specs.Lane.{Cell, withBit, putBytes, ownCell, shownCell, turned}
+use Rattle.dsp.specs.Tick.{Round, turn, voicesTick, sharedOf, startOf, tickOf, Bench, benchTick}
+use Rattle.dsp.specs.declared.lane.Shared.{Shared}
+use Rattle.dsp.specs.declared.registers.Dsp.{Dsp}
+use Rattle.dsp.specs.declared.tick.Work.{Work}
+use Rattle.dsp.proofs.Turns.{turns-keep, set-keeps}
+use Rattle.dsp.proofs.Fits.{fit-facts, facts-fit}
+use Rattle.dsp.proofs.Ticks.{fit-kept-bench}
+use Rattle.rework.specs.Differ.{Value}
+use Rattle.rework.proofs.Bits.{with-byte}
+use Rattle.rework.proofs.Tape.{Beat, put, tick, ask, Small, tape}
+use Rattle.rework.proofs.Right.{Good, good-start, good-tick, good-write}
+use Rattle.rework.proofs.Kept.{Sized}
+
+pub tape-keeps : (w : Work) (P : Parts → List ℕ → Type 0) → ((old : List ℕ) (p : Parts) (ram : List ℕ) → P p ram → P (tickOf w old p ram .parts) (tickOf w old p ram .ram))
+    → ((i x : ℕ) (p : Parts) (ram : List ℕ) → i < 128 → x < 256 → P p ram → P (writeParts i x p) ram)
+    → (bs : List Beat) (old : List ℕ) (p : Parts) (ram : List ℕ) → Small bs → P p ram → P (tape w bs old p ram .parts) (tape w bs old p ram .ram)
+unfolding tape Small
+tape-keeps w P t u [] old p ram s h = h
+tape-keeps w P t u (put i x ∷ bs) old p ram s h = tape-keeps w P t u bs old (writeParts i x p) ram (s .2) (u i x p ram (s .0) (s .1) h)
+tape-keeps w P t u (tick ∷ bs) old p ram s h = tape-keeps w P t u bs (drop 36 old) (tickOf w old p ram .parts) (tickOf w old p ram .ram) s (t old p ram h)
+tape-keeps w P t u (ask r ∷ bs) old p ram s h = tape-keeps w P t u bs old p ram s h
+
+-- ---- lengths, fit, samples of 16 bits, and an ENDX byte
+
+pub record Whole (p : Parts) (ram : List ℕ) : Type 0 where
+  pub good : Good p
+  pub endx : getD (p .registers) 0x7C 0 < 256
+  pub room : length ram ≡ 0x10000
+
+endx-turn : (mask : ℕ) (old : List ℕ) (c : Shared) (ram : List ℕ) (j : ℕ) (r : Round) → j < 8 → getD (r .bytes) 0x7C 0 < 256 → getD (turn mask old c ram j r .bytes) 0x7C 0 < 256
+unfolding turn turned putBytes
+endx-turn mask old c ram j r l h =
+    let b = r .bytes in
+    let n : 0x7C ≢ j * 16 + 8 = (λ e. absurd (omega (arith, l, e))) in
+    let m : 0x7C ≢ j * 16 + 9 = (λ e. absurd (omega (arith, l, e))) in
+    let x : Cell = if bit mask j then ownCell c ram j (r .acc .prev) (getD (r .voices) j noVoice) (getD (r .delays) j 0) b else shownCell (laneAt j old) (getD (r .voices) j noVoice) (getD (r .delays) j 0) in
+    let y = set b (j * 16 + 8) (x .envx) in
+    let z = set y (j * 16 + 9) (highZ (x .out)) in
+    let e : getD z 0x7C 0 ≡ getD b 0x7C 0 = getD-set-other y (j * 16 + 9) 0x7C (highZ (x .out)) 0 m ∙ getD-set-other b (j * 16 + 8) 0x7C (x .envx) 0 n in
+    let k : getD z 0x7C 0 < 256 = subst (λ (v : ℕ). v < 256) (sym e) h in
+    set-keeps (λ (v : ℕ). v < 256) 0 z 0x7C (withBit (getD z 0x7C 0) j (x .endx)) (with-byte (getD z 0x7C 0) j (x .endx) k l) 0x7C k
+
+endx-tick : (w : Work) (old : List ℕ) (p : Parts) (ram : List ℕ) → getD (p .registers) 0x7C 0 < 256 → getD (tickOf w old p ram .parts .registers) 0x7C 0 < 256
+unfolding tickOf voicesTick
+endx-tick w old p ram h =
+    let c = sharedOf (p .glob) (p .registers) in
+    turns-keep (λ (r : Round). getD (r .bytes) 0x7C 0 < 256) (turn (w .voices) old c ram) 8 (endx-turn (w .voices) old c ram) 8 (startOf p) (omega arith) h
+
+endx-write : (i x : ℕ) (p : Parts) → x < 256 → getD (p .registers) 0x7C 0 < 256 → getD (writeParts i x p .registers) 0x7C 0 < 256
+unfolding writeParts
+endx-write i x p l h =
+    let P : ℕ → Type 0 = (λ v. v < 256) in
+    chosen (λ (b : List ℕ). getD b 0x7C 0 < 256) (resets i x)
+    (set-keeps P 0 (set (p .registers) i x) 0x7C 0 (omega arith) 0x7C (set-keeps P 0 (p .registers) i x l 0x7C h))
+    (set-keeps P 0 (p .registers) i (at i 0x7C x x) (chosen P (i =? 0x7C) l l) 0x7C h)
+
+pub whole-tick : (w : Work) (old : List ℕ) (p : Parts) (ram : List ℕ) → Whole p ram → Whole (tickOf w old p ram .parts) (tickOf w old p ram .ram)
+unfolding benchTick
+whole-tick w old p ram h =
+    let b : Bench = record { parts = p; ram = ram; pcm = []; sheet = []; old = old } in
+    record {
+      good = good-tick w old p ram (h .room) (h .good);
+      endx = endx-tick w old p ram (h .endx);
+      room = fit-kept-bench w b (record { ram = h .room; round = h .good .round .fit; glob = h .good .glob }) .ram;
+    }
+
+pub whole-write : (i x : ℕ) (p : Parts) (ram : List ℕ) → i < 128 → x < 256 → Whole p ram → Whole (writeParts i x p) ram
+whole-write i x p ram li lx h = record { good = good-write i x p li lx (h .good); endx = endx-write i x p lx (h .endx); room = h .room }
+
+pub whole-tape : (w : Work) (bs : List Beat) (old : List ℕ) (p : Parts) (ram : List ℕ) → Small bs → Whole p ram → Whole (tape w bs old p ram .parts) (tape w bs old p ram .ram)
+whole-tape w = tape-keeps w Whole (whole-tick w) whole-write
+
+-- the parts of a fit record of the language
+pub whole-start : (d : Dsp) (ram : List ℕ) → Value (apart d) → fit d ≡ true → length ram ≡ 0x10000 → Whole (apart d) ram
+whole-start d ram v f r = record { good = good-start d v (fit-facts d f); endx = v .bytes 0x7C; room = r }
+
+pub whole-fit : {p : Parts} {ram : List ℕ} → Whole p ram → fit (together p) ≡ true
+whole-fit {p} h = facts-fit (together p) (record { glob = h .good .glob; voices = h .good .round .fit .voices; delays = h .good .round .fit .delays })
+
+pub whole-sized : {p : Parts} {ram : List ℕ} → Whole p ram → Sized p
+whole-sized h = record { registers = h .good .round .fit .bytes; voices = h .good .round .fit .count; delays = h .good .round .fit .waits }

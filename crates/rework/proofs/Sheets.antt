@@ -1,0 +1,138 @@
+-- A sheet as its rows: how long it is, where a row of it stands, and what two sheets have in common outside a set.
+use mathlib.Core.List.{List, [], _∷_, _++_, flatten}
+use mathlib.Core.Path.{_≡_, refl, sym, ap, subst, _∙_}
+use Prim.Native.Nat.{ℕ, zero, suc, _+_, _*_, _<_}
+use native.Mathlib.Omega.{arith}
+use borrow.Author.Tests.{eqb-false}
+use lib.ListN.{drop, length, length-append}
+use lib.Seq.{drop-at, drop-append-add}
+use Rattle.numbers.specs.Choice.{_<?_, _=?_}
+use Rattle.numbers.proofs.Choice.{tested}
+use Rattle.dsp.specs.Machine.{Parts}
+use Rattle.dsp.specs.Registers.{writeParts}
+use Rattle.dsp.specs.Sheet.{laneAt}
+use Rattle.dsp.specs.Tick.{tickOf}
+use Rattle.dsp.specs.declared.tick.Work.{Work}
+use Rattle.dsp.proofs.Batches.{lane-part}
+use Rattle.log.specs.Measure.{ticksOf, readingsOf, total}
+use Rattle.log.specs.declared.Measured.{Measured}
+use Rattle.log.specs.declared.Record.{Record}
+use Rattle.log.specs.declared.Record.the-variants.{Write, Ticks, Reading}
+use Rattle.log.proofs.Turn.{good}
+use Rattle.rework.specs.Differ.{Outside, SameBut}
+use Rattle.rework.proofs.Tape.{Beat, ticksThen, beats, tape, Rows, none, more, Over, over, upon}
+use Rattle.rework.proofs.Right.{Sized36}
+
+-- ---- rows one behind the other
+
+pub rows-length : (xs : List (List ℕ)) → Sized36 xs → length (flatten xs) ≡ length xs * 36
+unfolding Sized36 flatten
+rows-length [] h = refl
+rows-length (x ∷ xs) h = let e = rows-length xs (h .1) in length-append x (flatten xs) ∙ omega (arith, e, h .0)
+
+-- a row at the front has the sheet's lanes
+front-lane : (j : ℕ) (x rest : List ℕ) → length x ≡ 36 → j < 9 → laneAt j (x ++ rest) ≡ laneAt j x
+front-lane j x rest h l = lane-part j x rest (omega (arith, h, l))
+
+-- past a row
+next-row : (t : ℕ) (x rest : List ℕ) → length x ≡ 36 → drop (suc t * 36) (x ++ rest) ≡ drop (t * 36) rest
+next-row t x rest h =
+    let e : suc t * 36 ≡ length x + t * 36 = omega (arith, h) in
+    ap (λ (n : ℕ). drop n (x ++ rest)) e ∙ drop-append-add x rest (t * 36)
+
+-- ---- two sheets that agree outside a set
+
+pub over-rows : (a : ℕ) {xs ys : List (List ℕ)} → Sized36 xs → Rows a xs ys → Over a (flatten xs) ys
+unfolding Sized36 flatten
+over-rows a h none = over
+over-rows a h (more {x = x} {y = y} {xs = xs} {ys = ys} s r) =
+    upon (λ j l o. front-lane j x (flatten xs) (h .0) l ∙ s j l o) (subst (λ (old : List ℕ). Over a old ys) (sym (drop-at x (flatten xs) 36 (h .0))) (over-rows a (h .1) r))
+
+-- row t of both
+pub others : (a : ℕ) {xs ys : List (List ℕ)} → Sized36 xs → Sized36 ys → Rows a xs ys → (t j : ℕ) → j < 9 → (j < 8 → Outside a j)
+    → laneAt j (drop (t * 36) (flatten ys)) ≡ laneAt j (drop (t * 36) (flatten xs))
+unfolding Sized36 flatten
+others a h k none t j l o = refl
+others a h k (more {x = x} {y = y} {xs = xs} {ys = ys} s r) zero j l o = front-lane j y (flatten ys) (k .0) l ∙ sym (s j l o) ∙ sym (front-lane j x (flatten xs) (h .0) l)
+others a h k (more {x = x} {y = y} {xs = xs} {ys = ys} s r) (suc t) j l o =
+    ap (laneAt j) (next-row t y (flatten ys) (k .0)) ∙ others a (h .1) (k .1) r t j l o ∙ sym (ap (laneAt j) (next-row t x (flatten xs) (h .0)))
+
+pub rows-sym : (a : ℕ) {xs ys : List (List ℕ)} → Rows a xs ys → Rows a ys xs
+rows-sym a none = none
+rows-sym a (more s r) = more (λ j l o. sym (s j l o)) (rows-sym a r)
+
+pub rows-trans : (a : ℕ) {xs ys zs : List (List ℕ)} → Rows a xs ys → Rows a ys zs → Rows a xs zs
+rows-trans a none none = none
+rows-trans a (more s r) (more u v) = more (λ j l o. s j l o ∙ u j l o) (rows-trans a r v)
+
+pub rows-count : (a : ℕ) {xs ys : List (List ℕ)} → Rows a xs ys → length xs ≡ length ys
+rows-count a none = refl
+rows-count a (more s r) = ap suc (rows-count a r)
+
+-- ---- as many rows as the records have ticks
+
+unfoldable pub ticksIn : List Record → ℕ
+ticksIn [] = 0
+ticksIn (r ∷ rs) = ticksOf r + ticksIn rs
+
+ticks-more : (w : Work) (n : ℕ) (bs : List Beat) (k : ℕ) → ((old : List ℕ) (p : Parts) (ram : List ℕ) → length (tape w bs old p ram .rows) ≡ k)
+    → (old : List ℕ) (p : Parts) (ram : List ℕ) → length (tape w (ticksThen n bs) old p ram .rows) ≡ n + k
+unfolding ticksThen tape
+ticks-more w zero bs k h old p ram = h old p ram ∙ omega arith
+ticks-more w (suc n) bs k h old p ram =
+    let t = tickOf w old p ram in
+    let e = ticks-more w n bs k h (drop 36 old) (t .parts) (t .ram) in
+    ap suc e ∙ omega arith
+
+pub row-each : (w : Work) (rs : List Record) (old : List ℕ) (p : Parts) (ram : List ℕ) → length (tape w (beats rs) old p ram .rows) ≡ ticksIn rs
+unfolding beats tape ticksIn
+row-each w [] old p ram = refl
+row-each w (Write i v ∷ rs) old p ram = row-each w rs old (writeParts i v p) ram ∙ omega arith
+row-each w (Ticks n ∷ rs) old p ram = ticks-more w n (beats rs) (ticksIn rs) (row-each w rs) old p ram
+row-each w (Reading r ∷ rs) old p ram = row-each w rs old p ram ∙ omega arith
+
+-- the ticks of a log that is refused by nothing
+pub total-ticks : (rs : List Record) (stop t q T Q : ℕ) → total rs stop t q ≡ good T Q → T ≡ t + ticksIn rs
+unfolding total ticksIn
+total-ticks [] stop t q T Q =
+    tested (λ (m : Measured). m ≡ good T Q → T ≡ t + 0) (stop =? 0)
+    (λ _ e. let z : t ≡ T = ap (λ (m : Measured). m .ticks) e in omega (arith, z))
+    (λ f e. absurd (eqb-false stop 0 f (ap (λ (m : Measured). m .refusal) e)))
+total-ticks (r ∷ rs) stop t q T Q =
+    tested (λ (m : Measured). m ≡ good T Q → T ≡ t + (ticksOf r + ticksIn rs)) (32000 <? t + ticksOf r)
+    (λ _ e. let z : _≡_ {A = ℕ} 7 0 = ap (λ (m : Measured). m .refusal) e in absurd (omega (arith, z)))
+    (λ _ e. let z = total-ticks rs stop (t + ticksOf r) (q + readingsOf r) T Q e in omega (arith, z))
+
+-- ---- records that differ only in what is a set's own
+
+pub same-sym : (a : ℕ) (p q : Parts) → SameBut a p q → SameBut a q p
+same-sym a p q s =
+    let b = s .bytes in
+    record {
+      bytes = record { own = λ j k l m o. sym (b .own j k l m o); endx = λ j l o. sym (b .endx j l o); others = λ n l m o. sym (b .others n l m o) };
+      voices = λ j l o. sym (s .voices j l o);
+      delays = λ j l o. sym (s .delays j l o);
+      taps = sym (s .taps);
+      left = sym (s .left);
+      right = sym (s .right);
+      glob = sym (s .glob);
+    }
+
+pub same-trans : (a : ℕ) (p q r : Parts) → SameBut a p q → SameBut a q r → SameBut a p r
+same-trans a p q r s t =
+    let b = s .bytes in
+    let c = t .bytes in
+    record {
+      bytes =
+          record {
+            own = λ j k l m o. b .own j k l m o ∙ c .own j k l m o;
+            endx = λ j l o. b .endx j l o ∙ c .endx j l o;
+            others = λ n l m o. b .others n l m o ∙ c .others n l m o;
+          };
+      voices = λ j l o. s .voices j l o ∙ t .voices j l o;
+      delays = λ j l o. s .delays j l o ∙ t .delays j l o;
+      taps = s .taps ∙ t .taps;
+      left = s .left ∙ t .left;
+      right = s .right ∙ t .right;
+      glob = s .glob ∙ t .glob;
+    }
