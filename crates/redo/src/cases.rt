@@ -1,8 +1,9 @@
-// The file of pairs: the number of a RAM image, the mask of the named voices, what is lent; then five logs, each behind its
-// length: both preludes, the old log, the new one, the tail.
+// The file of pairs: the number of a RAM image, the mask of the named voices, what is lent, which records are unfit; then five
+// logs, each behind its length: both preludes, the old log, the new one, the tail.
 ghost use Prim.Native.Nat.{_<_};
 use crate::redone::Asked;
 use crate::redone::redo;
+use crate::redone::spoiled;
 use dsp::Dsp;
 use report::cases::image;
 use report::cases::stored_log;
@@ -16,7 +17,7 @@ const CASES_MOST: u64 = 1000;
 // The images are ram0 to ram9.
 const IMAGES: u8 = 10;
 
-const HEAD: usize = 3;
+const HEAD: usize = 4;
 
 // The record that a run gave back, or that the file stops inside the log that was to be run.
 struct Back {
@@ -36,7 +37,7 @@ pub fn all(fd: i32) {
 
 // Whether there was a pair to rework.
 fn next(fd: i32, number: u64) -> bool {
-    let mut head = [0u8; 3];
+    let mut head = [0u8; 4];
     let got = io::read_full(fd, &mut head);
     if got == 0 {
         return false;
@@ -49,6 +50,7 @@ fn next(fd: i32, number: u64) -> bool {
         ram,
         named: head[1],
         lent: head[2],
+        unfit: head[3],
     };
     numbered(b"CASE ", number);
     with_preludes(fd, asked)
@@ -68,7 +70,7 @@ fn with_preludes(fd: i32, asked: Asked) -> bool
         return stops();
     }
     let from = p.dsp;
-    let start = q.dsp;
+    let start = spoiled(q.dsp, asked.unfit % 2 == 1);
     with_old(fd, asked, from, start)
 }
 

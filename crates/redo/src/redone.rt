@@ -13,11 +13,13 @@ use rework::Reworked;
 use rework::rework;
 use sitting::Ran;
 
-// The number of the RAM image, the mask of the named voices; and which slice is lent a byte short or a byte long.
+// The number of the RAM image, the mask of the named voices; which slice is lent a byte short or a byte long; which records are
+// unfit: bit 0 the new start record, bit 1 the old end record.
 pub struct Asked {
     pub ram: u8,
     pub named: u8,
     pub lent: u8,
+    pub unfit: u8,
 }
 
 const SHORT_PCM: u8 = 1;
@@ -25,6 +27,15 @@ const SHORT_PCM: u8 = 1;
 const SHORT_SHEET: u8 = 3;
 
 const SHORT_READINGS: u8 = 5;
+
+// PMON is even in a fit record.
+pub fn spoiled(dsp: Dsp, unfit: bool) -> Dsp {
+    let mut d = dsp;
+    if unfit {
+        d.pmon = 1;
+    }
+    d
+}
 
 // The record that the rework gives back. The first run has a RAM of its own.
 pub fn redo(asked: Asked, from: Dsp, start: Dsp, old: &[u8], new: &[u8]) -> Dsp
@@ -132,7 +143,7 @@ fn reworked(
     rework_on(
         asked.named,
         start,
-        end,
+        spoiled(end, asked.unfit / 2 % 2 == 1),
         ram,
         old,
         new,

@@ -1,8 +1,8 @@
 //! Files of cases, one after the other. A log in it is its length (16 bits,
 //! low byte first), then its bytes. A case to run is the number of its RAM
 //! image (one byte) and a log. A case to rework is the number of its RAM
-//! image, the mask of the named voices and what is lent (a byte each), then
-//! five logs.
+//! image, the mask of the named voices, what is lent and which records are
+//! unfit (a byte each), then five logs.
 
 /// As many as a program reads that must come to an end on any input.
 pub const CASES_MOST: usize = 1_000;
@@ -21,8 +21,10 @@ pub struct Pair {
     pub ram: u8,
     /// The mask S of the named voices.
     pub named: u8,
-    /// One of those in `lent`.
+    /// See `lent`.
     pub lent: u8,
+    /// See `unfit`.
+    pub unfit: u8,
     pub preludes: [Vec<u8>; 2],
     pub logs: [Vec<u8>; 2],
     /// Run on from the record that the rework gives back: what it hides
@@ -40,6 +42,13 @@ pub mod lent {
     pub const LONG_SHEET: u8 = 4;
     pub const SHORT_READINGS: u8 = 5;
     pub const LONG_READINGS: u8 = 6;
+}
+
+/// Records that are made unfit before the call, by an odd PMON: no log
+/// leaves one so. One bit each.
+pub mod unfit {
+    pub const START: u8 = 1;
+    pub const OLD_END: u8 = 2;
 }
 
 pub fn ram_path(folder: &str, image: u8) -> String {
@@ -68,7 +77,7 @@ impl Stored for Case {
 
 impl Stored for Pair {
     fn bytes(&self) -> Vec<u8> {
-        let mut all = vec![self.ram, self.named, self.lent];
+        let mut all = vec![self.ram, self.named, self.lent, self.unfit];
         for log in self.preludes.iter().chain(&self.logs).chain([&self.tail]) {
             all.extend(log_bytes(log));
         }
@@ -80,6 +89,7 @@ impl Stored for Pair {
             ram: rest.image()?,
             named: rest.byte()?,
             lent: rest.byte()?,
+            unfit: rest.byte()?,
             preludes: [rest.log()?, rest.log()?],
             logs: [rest.log()?, rest.log()?],
             tail: rest.log()?,
@@ -157,11 +167,12 @@ mod tests {
             ram: 1,
             named: 0x80,
             lent: lent::LONG_READINGS,
+            unfit: unfit::OLD_END,
             preludes: [log("p"), log("pp")],
             logs: [log("l"), log("")],
             tail: log("t"),
         };
-        let file = b"\x01\x80\x06\x01\x00p\x02\x00pp\x01\x00l\x00\x00\x01\x00t";
+        let file = b"\x01\x80\x06\x02\x01\x00p\x02\x00pp\x01\x00l\x00\x00\x01\x00t";
         assert_eq!(bytes(&[pair.clone()]), file);
         assert_eq!(read::<Pair>(&file.repeat(2)).unwrap(), [pair.clone(), pair]);
         for length in 1..file.len() {

@@ -13,11 +13,11 @@ pub enum Record {
     End,
 }
 
-/// Document 01's refusal numbers but for 2: every record that a log leaves is
-/// fit.
+/// Document 01's refusal numbers.
 #[derive(Clone, Copy, Debug, PartialEq)]
 pub enum Refusal {
     RamLength = 1,
+    UnfitRecord = 2,
     LogTooLong = 3,
     UnknownMark = 4,
     StopsInside = 5,

@@ -5,7 +5,7 @@
 use apu::dsp::Dsp;
 use apu::memory::RawARAM;
 
-use crate::cases::{lent, Pair};
+use crate::cases::{lent, unfit, Pair};
 use crate::chip::{self, Played};
 use crate::log::{self, Record, Refusal};
 use crate::registers::*;
@@ -68,6 +68,9 @@ pub struct Reworked {
 /// "Order: 1, 2, 3, then 4 to 9 .., then 12, 11, 10"; "the old log fully (3
 /// to 9) before the new".
 pub fn rework(pair: &Pair, ram: &RawARAM) -> Result<Reworked, Refusal> {
+    if pair.unfit != 0 {
+        return Err(Refusal::UnfitRecord);
+    }
     let old = log::read(&pair.logs[0])?;
     let new = log::read(&pair.logs[1])?;
     let kept = |records: &[Record]| without(records, Voices(pair.named));
@@ -148,6 +151,9 @@ fn of_pair(pair: &Pair, ram: &RawARAM) -> String {
             Sitting::after(&pair.preludes[1], ram),
         ),
     };
+    if pair.unfit & unfit::START != 0 {
+        return format!("{said}TAIL\n{}", chip::refused(Refusal::UnfitRecord));
+    }
     let tail = log::read(&pair.tail).expect("a tail is well formed");
     let played = back.play(&tail, |_| {});
     format!("{said}TAIL\n{}", chip::lines(&played, &back.ram))
@@ -168,6 +174,7 @@ mod tests {
             ram: 0,
             named,
             lent: lent::AS_NEEDED,
+            unfit: 0,
             preludes: [b"ND".to_vec(), b"ND".to_vec()],
             logs: [old.to_vec(), new.to_vec()],
             tail: b"ND".to_vec(),
@@ -273,6 +280,11 @@ mod tests {
         let on = b"RW\x6C\x00TK\x01\x00ND";
         let mut given = pair(0x08, b"XX", b"");
         given.lent = lent::LONG_PCM;
+        for records in [unfit::START, unfit::OLD_END, unfit::START | unfit::OLD_END] {
+            given.unfit = records;
+            assert_eq!(refusal(&given), 2);
+        }
+        given.unfit = 0;
         assert_eq!(refusal(&given), 4, "the old log is told first");
         given.logs[0] = on.to_vec();
         assert_eq!(refusal(&given), 8, "then the new one");
@@ -306,6 +318,13 @@ mod tests {
         given.tail = b"QA\x30ND".to_vec();
         let text = report(&[given.clone()], |_| Ok(vec![0; 65_536])).unwrap();
         assert!(text.starts_with("CASE 1\nREFUSED 12\nTAIL\nQ 1 30 22\nEND 0 1\n"));
+        given.unfit = unfit::OLD_END;
+        let text = report(&[given.clone()], |_| Ok(vec![0; 65_536])).unwrap();
+        assert!(text.starts_with("CASE 1\nREFUSED 2\nTAIL\nQ 1 30 22\nEND 0 1\n"));
+        given.unfit = unfit::START;
+        let text = report(&[given.clone()], |_| Ok(vec![0; 65_536])).unwrap();
+        assert_eq!(text, "CASE 1\nREFUSED 2\nTAIL\nREFUSED 2\n");
+        given.unfit = 0;
         given.logs[0] = given.logs[1].clone();
         let text = report(&[given], |_| Ok(vec![0; 65_536])).unwrap();
         assert!(text.starts_with("CASE 1\nVOICES 08 1\nQ 1 30 22\nEND 0 1\nREG "));

@@ -72,6 +72,8 @@ fn wrong_rams() -> [Vec<u8>; 2] {
 enum Wrong {
     Nothing,
     Ram,
+    Record,
+    RecordAndLogs,
     OldLog,
     NewLog,
     BothLogs,
@@ -82,8 +84,10 @@ enum Wrong {
     EchoAndLent,
 }
 
-const WRONGS: [Wrong; 9] = [
+const WRONGS: [Wrong; 11] = [
     Wrong::Ram,
+    Wrong::Record,
+    Wrong::RecordAndLogs,
     Wrong::OldLog,
     Wrong::NewLog,
     Wrong::BothLogs,
@@ -120,7 +124,7 @@ fn one(random: &mut Random, banks: &[Bank], some_wrong: bool) -> Pair {
             encode(&records)
         }
     };
-    let both = wrong == Wrong::BothLogs;
+    let both = matches!(wrong, Wrong::BothLogs | Wrong::RecordAndLogs);
     Pair {
         ram: match wrong {
             Wrong::Ram => (banks.len() + random.below(2)) as u8,
@@ -132,6 +136,10 @@ fn one(random: &mut Random, banks: &[Bank], some_wrong: bool) -> Pair {
                 random.between(lent::SHORT_PCM.into(), lent::LONG_READINGS.into()) as u8
             }
             _ => lent::AS_NEEDED,
+        },
+        unfit: match wrong {
+            Wrong::Record | Wrong::RecordAndLogs => random.between(1, 3) as u8,
+            _ => 0,
         },
         preludes: preludes.map(|records| encode(&records)),
         logs: [
@@ -316,7 +324,7 @@ mod tests {
     use crate::chip;
     use crate::rework;
 
-    /// Every refusal but 2 and 3 is met, most pairs are taken, and A grows in
+    /// Every refusal but 3 is met, most pairs are taken, and A grows in
     /// many of them.
     #[test]
     fn random_pairs_meet_the_refusals() {
@@ -333,8 +341,8 @@ mod tests {
                 }
             }
         }
-        assert_eq!(refused[2..=3], [0, 0]);
-        for number in [1, 4, 5, 6, 7, 8, 9, 10, 11, 12] {
+        assert_eq!(refused[3], 0);
+        for number in [1, 2, 4, 5, 6, 7, 8, 9, 10, 11, 12] {
             assert!(refused[number] > 0, "{number}: {refused:?}");
         }
         assert!(

@@ -2,7 +2,7 @@
 //! and for each of its refusals in their order. A name that starts with
 //! `refused-` says the refusal; any other pair is taken.
 
-use crate::cases::{lent, Pair};
+use crate::cases::{lent, unfit, Pair};
 use crate::log::LOG_MOST;
 use crate::make::cases::Made;
 use crate::make::directed::image::{self, *};
@@ -24,6 +24,7 @@ pub fn all() -> Made<Pair> {
         .chain(REFUSED)
         .map(|(name, play)| (name.to_string(), made(play)))
         .chain(bad_logs())
+        .chain(unfit_records())
         .chain(wrong_lengths())
         .collect();
     let line = |(number, (name, _)): (usize, &(String, Pair))| format!("{number} {name}\n");
@@ -123,6 +124,7 @@ fn made(play: &fn(&mut Two)) -> Pair {
         ram: IMAGE,
         named: two.named,
         lent: two.lent,
+        unfit: 0,
         preludes: preludes.map(|s| encode(&s.ended())),
         logs: [two.old, two.new].map(|s| encode(&s.ended())),
         tail: encode(&tail().ended()),
@@ -602,10 +604,33 @@ fn bad_logs() -> Vec<(String, Pair)> {
     pairs
 }
 
+/// "Rework checks the start record before the old end record": both give 2,
+/// before anything that the logs give.
+fn unfit_records() -> Vec<(String, Pair)> {
+    let good: &[u8] = b"TK\x01\x00QA\x38ND";
+    let records = |unfit, log| Pair {
+        unfit,
+        ..with_logs(log, log)
+    };
+    vec![
+        ("refused-2-start".to_string(), records(unfit::START, good)),
+        ("refused-2-end".to_string(), records(unfit::OLD_END, good)),
+        (
+            "refused-2-both-before-4".to_string(),
+            records(unfit::START | unfit::OLD_END, b"XX"),
+        ),
+        (
+            "refused-2-end-before-8".to_string(),
+            records(unfit::OLD_END, b""),
+        ),
+    ]
+}
+
 /// "RAM slice isn't 65,536 bytes", before all else.
 fn wrong_lengths() -> Vec<(String, Pair)> {
     let image = |ram| Pair {
         ram,
+        unfit: unfit::START,
         ..with_logs(b"XX", b"")
     };
     vec![
