@@ -1,5 +1,6 @@
-# lesson: builds the program `bench` and plays a lesson by it. test: the gate.
-.PHONY: lesson test
+# lesson: builds the program `bench` and plays a lesson by it. remark: builds the program `remark` and asks it what of a sitting
+# has to be marked again after a change of voice 3. test: the gate.
+.PHONY: lesson remark test
 lesson:
 	rt check bench
 	tools/lesson/assemble lessons/voices.txt target/lesson
@@ -11,5 +12,13 @@ lesson:
 	else \
 	    echo "The lesson is in target/lesson. It is not played: target/bin/bench is made for x86-64 alone."; \
 	fi
+remark:
+	rt check remark
+	tools/lesson/assemble lessons/final.txt target/remark
+	mv target/remark/log.bin target/remark/old.bin
+	tools/lesson/assemble lessons/final-voice3.txt target/remark
+	printf '\010' >target/remark/named.bin
+	@tools/runner || echo "It is not asked: target/bin/remark is made for x86-64 alone."
+	@if tools/runner; then cd target/remark && ../../tools/runner ../bin/remark <log.bin; fi
 test:
 	.ci/run
