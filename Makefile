@@ -4,13 +4,13 @@
 lesson:
 	rt check bench
 	tools/lesson/assemble lessons/voices.txt target/lesson
-	@if [ "$$(uname -m)" = x86_64 ]; then \
-	    cd target/lesson && ../bin/bench <log.bin | tee readings && grep -q '^END ' readings || exit 1; \
+	@if tools/runner; then \
+	    cd target/lesson && ../../tools/runner ../bin/bench <log.bin | tee readings && grep -q '^END ' readings || exit 1; \
 	    echo "The sound is in target/lesson/out.pcm: 16 bits, low byte first, left and right, 32,000 Hz. To hear it:"; \
 	    echo "  aplay -t raw -f S16_LE -c 2 -r 32000 target/lesson/out.pcm"; \
 	    echo "  play -t raw -e signed -b 16 -L -c 2 -r 32000 target/lesson/out.pcm     (of sox)"; \
 	else \
-	    echo "The lesson is in target/lesson. It is not played: target/bin/bench is made for x86-64 alone."; \
+	    echo "The lesson is in target/lesson. It is not played: target/bin/bench is made for x86-64, and the kit has no emulator here."; \
 	fi
 remark:
 	rt check remark

@@ -4,7 +4,6 @@ use mathlib.Core.Bool.{true, _&&_}
 use mathlib.Core.List.{List, [], _∷_, flatten}
 use mathlib.Core.Path.{_≡_, refl, sym, ap, subst, _∙_}
 use Prim.Native.Nat.{ℕ, _*_}
-use native.Mathlib.Nat.{zero-add}
 use lib.ListN.{length, drop}
 use borrow.Author.Tests.{eq-eqb}
 use Rattle.dsp.specs.Machine.{Parts, apart, together}
@@ -29,7 +28,7 @@ use Rattle.rework.proofs.Right.{Sized36, rows-36, right}
 use Rattle.rework.proofs.Kept.{Sized, kept}
 use Rattle.rework.proofs.Ends.{end-parts}
 use Rattle.rework.proofs.Taped.{taped}
-use Rattle.rework.proofs.Sheets.{rows-length, over-rows, others, rows-sym, rows-trans, rows-count, ticksIn, row-each, total-ticks, same-sym, same-trans}
+use Rattle.rework.proofs.Sheets.{rows-length, over-rows, others, rows-sym, rows-trans, rows-count, puts, measured-sums, same-sym, same-trans}
 use Rattle.rework.proofs.Beats.{keep-beats, members-without, quiet-without, joins-beats, quiet-beats, small-beats}
 use Rattle.rework.proofs.Taken.{Fitting, unrefused, run-is}
 use Rattle.rework.proofs.Keeps.{whole-start, whole-tape, whole-fit, whole-sized}
@@ -137,11 +136,7 @@ unrefused-rework s start end ram log₁ log₂ r f g m₁ m₂ w q =
 filled : (s : ℕ) (log : List ℕ) (xs : List (List ℕ)) (old : List ℕ) (p : Parts) (ram : List ℕ) → measureOf log .refusal ≡ 0 → Sized36 xs
     → Rows s xs (tape everything (beats (decode log .records)) old p ram .rows) → length (flatten xs) ≡ measureOf log .ticks * 36
 filled s log xs old p ram z w r =
-    let m = measureOf log in
-    let t : m .ticks ≡ ticksIn (decode log .records) = total-ticks (decode log .records) (decode log .stop) 0 0 (m .ticks) (m .readings) (taken log m refl z .all) ∙ zero-add (ticksIn (decode log .records)) in
-    let n = rows-count s r in
-    let k = row-each everything (decode log .records) old p ram in
-    rows-length xs w ∙ ap (λ (c : ℕ). c * 36) (n ∙ k ∙ sym t)
+    rows-length xs w ∙ ap (λ (c : ℕ). c * 36) (rows-count s r ∙ puts everything (decode log .records) old p ram .rows ∙ sym (measured-sums log z .0))
 
 -- ---- the theorem
 

@@ -7,12 +7,12 @@ use Prim.Native.Nat.{ℕ, zero, suc, _*_, _<_}
 use native.Mathlib.Omega.{arith}
 use lib.ListN.{getD, set, drop, replicate}
 use Rattle.numbers.specs.Choice.{_<?_}
-use Rattle.sound.specs.Sound.{to16, firSum, firOf}
+use Rattle.sound.specs.Sound.{firSum, firOf}
 use Rattle.sound.specs.Clock.{periods, periodOf}
 use Rattle.sound.specs.Envelope.{lowered, gained}
 use Rattle.sound.specs.Gauss.{weights, weightAt}
 use Rattle.sound.specs.Noise.{shifted}
-use Rattle.dsp.specs.Machine.{noVoice, newVoice, newDsp, apart}
+use Rattle.dsp.specs.Machine.{noVoice, newDsp, apart}
 use Rattle.dsp.specs.Sheet.{laneAt, pairBytes, laneBytes}
 use Rattle.dsp.specs.Brr.{byteAt, wordAt, nibbleAt, sampleOf, newest, decodeBlock}
 use Rattle.dsp.specs.Clock.{tickDue}
@@ -26,18 +26,17 @@ use Rattle.dsp.specs.Registers.{turns, silenceVoice, silenceAll, writeParts, wr
 use Rattle.dsp.specs.Tick.{turn, voicesTick, globTick, sharedFrom, tickOf, benchTick, ticksOf, driveOf, stepOf}
 use Rattle.dsp.specs.Voice.{pitchOf, positionOf, samplesTaken, muted, filled, placed, decodedAt, nextAddress, nextBlock, resolved, heard as heard-voice, takeOne, consume, advanced, interpolated, sounded, voiceStep}
 use Rattle.dsp.specs.declared.voice.Voice.{Voice}
-use Rattle.dsp.proofs.Turns.{set-keeps}
 use Rattle.dsp.proofs.Tests.{lt, _and_}
 use Rattle.log.specs.Log.{writeAt as writeAt-log, ticksAt, readingAt, byMark, readAt, decodeFrom, decode}
 use Rattle.log.specs.Measure.{total, measureOf}
 use Rattle.sitting.specs.Run.{Outcome, runOf, runMeasured, runWith}
 use Rattle.sitting.specs.Play.{play, playAll}
-use Rattle.rework.specs.Differ.{Value}
 use Rattle.rework.specs.Members.{modesOf, quiet, joinedBy, joinedOver, members, voicesIn}
 use Rattle.rework.specs.Rework.{Left, picked, ownBytes, pickedBytes, refusalOf, reworkOf}
 use Rattle.rework.specs.Demands.{Bytes, Reworks}
 use Rattle.rework.specs.Alike.{without, sameRecord, sameRecords, alike}
 use Rattle.rework.proofs.Bits.{itself}
+use Rattle.rework.proofs.Keeps.{new-value}
 use Rattle.rework.proofs.Demand3.{same-self, demand3}
 
 -- ---- the lessons
@@ -128,11 +127,6 @@ seen =
 
 -- ---- so demand 3 speaks of it
 
-all-in : {A : Type 0} (P : A → Type 0) (k : ℕ) (x d : A) → P x → P d → (n : ℕ) → P (getD (replicate k x) n d)
-all-in P zero x d p q n = q
-all-in P (suc k) x d p q zero = p
-all-in P (suc k) x d p q (suc n) = all-in P k x d p q n
-
 abbrev bytes : List ℕ → Bool
 bytes [] = true
 bytes (x ∷ xs) = (x <? 256) && bytes xs
@@ -141,19 +135,6 @@ are-bytes : (xs : List ℕ) → bytes xs ≡ true → Bytes xs
 are-bytes [] e i = omega arith
 are-bytes (x ∷ xs) e zero = (lt x 256 and itself (bytes xs)) .sound e .0
 are-bytes (x ∷ xs) e (suc i) = are-bytes xs ((lt x 256 and itself (bytes xs)) .sound e .1) i
-
-abbrev Sample : Voice → Type 0
-Sample v = to16 (v .«current_sample») ≡ v .«current_sample»
-
-new-value : Value (apart newDsp)
-new-value =
-    record {
-      registers = refl;
-      bytes = λ n. set-keeps (λ (v : ℕ). v < 256) 0 (replicate 128 0) 0x6C 0xE0 (omega arith) n (all-in (λ (v : ℕ). v < 256) 128 0 0 (omega arith) (omega arith) n);
-      voices = refl;
-      delays = refl;
-      samples = λ j l. all-in Sample 8 newVoice noVoice refl refl j;
-    }
 
 pub met : Reworks 0x08 newDsp (lesson 0x40) (run 0x7F) (run 0x40) again
 met =

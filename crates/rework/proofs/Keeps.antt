@@ -2,15 +2,16 @@
 use mathlib.Core.Bool.{true}
 use mathlib.Core.List.{List, [], _∷_}
 use mathlib.Core.Logic.{_≢_}
-use mathlib.Core.Path.{_≡_, sym, subst, _∙_}
-use Prim.Native.Nat.{ℕ, _+_, _*_, _<_}
+use mathlib.Core.Path.{_≡_, refl, sym, subst, _∙_}
+use Prim.Native.Nat.{ℕ, zero, suc, _+_, _*_, _<_}
 use native.Mathlib.Omega.{arith}
-use lib.ListN.{getD, set, length, drop}
+use lib.ListN.{getD, set, length, drop, replicate}
 use lib.Seq.{getD-set-other}
 use Rattle.numbers.specs.Choice.{if_then_else_, _=?_}
 use Rattle.numbers.specs.Signed.{highZ}
 use Rattle.numbers.proofs.Choice.{chosen}
-use Rattle.dsp.specs.Machine.{noVoice, Parts, apart, together}
+use Rattle.sound.specs.Sound.{to16}
+use Rattle.dsp.specs.Machine.{noVoice, newVoice, newDsp, Parts, apart, together}
 use Rattle.dsp.specs.Fit.{fit}
 use Rattle.dsp.specs.Registers.{at, resets, writeParts}
 use Rattle.dsp.specs.Mix.{bit}
@@ -18,6 +19,7 @@ use Rattle.dsp.specs.Sheet.{laneAt}
 use Rattle.dsp.specs.Lane.{Cell, withBit, putBytes, ownCell, shownCell, turned}
 use Rattle.dsp.specs.Tick.{Round, turn, voicesTick, sharedOf, startOf, tickOf, Bench, benchTick}
 use Rattle.dsp.specs.declared.lane.Shared.{Shared}
+use Rattle.dsp.specs.declared.voice.Voice.{Voice}
 use Rattle.dsp.specs.declared.registers.Dsp.{Dsp}
 use Rattle.dsp.specs.declared.tick.Work.{Work}
 use Rattle.dsp.proofs.Turns.{turns-keep, set-keeps}
@@ -97,3 +99,23 @@ whole-fit {p} h = facts-fit (together p) (record { glob = h .good .glob; voices 
 
 pub whole-sized : {p : Parts} {ram : List ℕ} → Whole p ram → Sized p
 whole-sized h = record { registers = h .good .round .fit .bytes; voices = h .good .round .fit .count; delays = h .good .round .fit .waits }
+
+-- ---- the power-on record is one of the language
+
+all-in : {A : Type 0} (P : A → Type 0) (k : ℕ) (x d : A) → P x → P d → (n : ℕ) → P (getD (replicate k x) n d)
+all-in P zero x d p q n = q
+all-in P (suc k) x d p q zero = p
+all-in P (suc k) x d p q (suc n) = all-in P k x d p q n
+
+abbrev Sample : Voice → Type 0
+Sample v = to16 (v .«current_sample») ≡ v .«current_sample»
+
+pub new-value : Value (apart newDsp)
+new-value =
+    record {
+      registers = refl;
+      bytes = λ n. set-keeps (λ (v : ℕ). v < 256) 0 (replicate 128 0) 0x6C 0xE0 (omega arith) n (all-in (λ (v : ℕ). v < 256) 128 0 0 (omega arith) (omega arith) n);
+      voices = refl;
+      delays = refl;
+      samples = λ j l. all-in Sample 8 newVoice noVoice refl refl j;
+    }

@@ -17,3 +17,4 @@ pub mod Demand1
 pub mod Demand2
 pub mod Demand3
 pub mod Instance
+pub mod Demand3New

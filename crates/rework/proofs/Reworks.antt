@@ -9,11 +9,11 @@ use lib.ListN.{length}
 use borrow.Author.Tests.{eqb-true, eq-eqb, ne-eqb, not-false}
 use Rattle.numbers.specs.Choice.{if_then_else_, _=?_}
 use Rattle.numbers.proofs.Choice.{tested}
-use Rattle.dsp.specs.Machine.{apart, together}
+use Rattle.dsp.specs.Machine.{newDsp, apart, together}
 use Rattle.dsp.specs.declared.registers.Dsp.{Dsp}
-use Rattle.sitting.specs.Run.{Outcome, runWith}
+use Rattle.sitting.specs.Run.{Outcome, runWith, runOf}
 use Rattle.rework.specs.Members.{voicesIn}
-use Rattle.rework.specs.Rework.{Left, endOf, refusalOf, setOf, only, reworked, reworkOf}
+use Rattle.rework.specs.Rework.{Left, endOf, refusalOf, setOf, only, reworked, reworkOf, afterFirst, reworkNewOf}
 
 -- the answer and the slices
 abbrev pub leaving : ℕ → Dsp → ℕ → ℕ → List ℕ → List ℕ → List ℕ → Left
@@ -57,3 +57,39 @@ module _ (s : ℕ) (start end : Dsp) (ram log₁ log₂ : List ℕ) where
         → leaving 0 d a n (o .sheet) (o .pcm) (o .readings) ≡ reworkOf s start end ram log₁ log₂ sheet pcm readings
     whole-run e ed en =
         (λ i. leaving 0 (ed i) a (en i) (o .sheet) (o .pcm) (o .readings)) ∙ sym (ap by (eq-eqb (o .refusal) 0 e)) ∙ h .is
+
+-- ---- the first sitting run inside
+
+module _ (s : ℕ) (ram log₁ log₂ sheet pcm readings : List ℕ) {start : Dsp} (new : start ≡ newDsp) where
+  abbrev whole : Left
+  whole = reworkNewOf s ram log₁ log₂ sheet pcm readings
+
+  -- refused before it
+  pub refused-new : {k l m n : ℕ} {d : Dsp} → k ≡ refusalOf s start start ram log₁ log₂ → k ≢ 0 → l ≡ k → d ≡ start → m ≡ 0 → n ≡ 0 → leaving l d m n sheet pcm readings ≡ whole
+  unfolding reworkNewOf
+  refused-new {k} ek z el ed em en =
+      let e : k ≡ refusalOf s newDsp newDsp ram log₁ log₂ = ek ∙ (λ i. refusalOf s (new i) (new i) ram log₁ log₂) in
+      rw (← e, ne-eqb k 0 z) (λ i. leaving (el i) ((ed ∙ new) i) (em i) (en i) sheet pcm readings)
+
+  pub record First (o : Outcome) : Type 0 where
+    pub is : afterFirst s ram log₁ log₂ o ≡ whole
+
+  pub first-run : {k : ℕ} {own : List ℕ} {o : Outcome} → k ≡ refusalOf s start start ram log₁ log₂ → k ≡ 0 → own ≡ ram → o ≡ runOf newDsp own log₁ pcm sheet readings → First o
+  unfolding reworkNewOf
+  first-run {k} ek ez er eo =
+      let e : refusalOf s newDsp newDsp ram log₁ log₂ ≡ 0 = sym (ek ∙ (λ i. refusalOf s (new i) (new i) ram log₁ log₂)) ∙ ez in
+      record { is = rw (eq-eqb _ 0 e) (ap (afterFirst s ram log₁ log₂) (eo ∙ (λ i. runOf newDsp (er i) log₁ pcm sheet readings))) }
+
+  module _ {o : Outcome} (h : First o) where
+    abbrev next : Bool → Left
+    next b =
+        if b then reworkOf s newDsp (o .dsp) ram log₁ log₂ (o .sheet) (o .pcm) (o .readings) else
+        leaving (o .refusal) newDsp 0 0 (o .sheet) (o .pcm) (o .readings)
+
+    pub refused-first : {k m n : ℕ} {d : Dsp} → k ≡ o .refusal → d ≡ start → m ≡ 0 → n ≡ 0 → o .refusal ≢ 0 → leaving k d m n (o .sheet) (o .pcm) (o .readings) ≡ whole
+    refused-first ek ed em en z =
+        (λ i. leaving (ek i) ((ed ∙ new) i) (em i) (en i) (o .sheet) (o .pcm) (o .readings)) ∙ sym (ap next (ne-eqb (o .refusal) 0 z)) ∙ h .is
+
+    pub reworked-first : {x : Left} → o .refusal ≡ 0 → x ≡ reworkOf s start (o .dsp) ram log₁ log₂ (o .sheet) (o .pcm) (o .readings) → x ≡ whole
+    reworked-first e ex =
+        ex ∙ (λ i. reworkOf s (new i) (o .dsp) ram log₁ log₂ (o .sheet) (o .pcm) (o .readings)) ∙ sym (ap next (eq-eqb (o .refusal) 0 e)) ∙ h .is

@@ -2,25 +2,27 @@
 use mathlib.Core.List.{List, [], _∷_, _++_, flatten}
 use mathlib.Core.Path.{_≡_, refl, sym, ap, subst, _∙_}
 use Prim.Native.Nat.{ℕ, zero, suc, _+_, _*_, _<_}
+use native.Mathlib.Nat.{zero-add}
 use native.Mathlib.Omega.{arith}
-use borrow.Author.Tests.{eqb-false}
 use lib.ListN.{drop, length, length-append}
 use lib.Seq.{drop-at, drop-append-add}
+use borrow.Author.Tests.{eqb-false}
 use Rattle.numbers.specs.Choice.{_<?_, _=?_}
 use Rattle.numbers.proofs.Choice.{tested}
 use Rattle.dsp.specs.Machine.{Parts}
 use Rattle.dsp.specs.Registers.{writeParts}
-use Rattle.dsp.specs.Sheet.{laneAt}
+use Rattle.dsp.specs.Sheet.{pairBytes, laneAt}
 use Rattle.dsp.specs.Tick.{tickOf}
 use Rattle.dsp.specs.declared.tick.Work.{Work}
 use Rattle.dsp.proofs.Batches.{lane-part}
-use Rattle.log.specs.Measure.{ticksOf, readingsOf, total}
+use Rattle.log.specs.Log.{decode}
+use Rattle.log.specs.Measure.{ticksOf, readingsOf, total, measureOf}
 use Rattle.log.specs.declared.Measured.{Measured}
 use Rattle.log.specs.declared.Record.{Record}
 use Rattle.log.specs.declared.Record.the-variants.{Write, Ticks, Reading}
-use Rattle.log.proofs.Turn.{good}
+use Rattle.log.proofs.Turn.{good, taken}
 use Rattle.rework.specs.Differ.{Outside, SameBut}
-use Rattle.rework.proofs.Tape.{Beat, ticksThen, beats, tape, Rows, none, more, Over, over, upon}
+use Rattle.rework.proofs.Tape.{Beat, ticksThen, beats, Tape, tape, Rows, none, more, Over, over, upon}
 use Rattle.rework.proofs.Right.{Sized36}
 
 -- ---- rows one behind the other
@@ -71,37 +73,62 @@ rows-count a (more s r) = ap suc (rows-count a r)
 
 -- ---- as many rows as the records have ticks
 
-unfoldable pub ticksIn : List Record → ℕ
-ticksIn [] = 0
-ticksIn (r ∷ rs) = ticksOf r + ticksIn rs
+-- ---- how many: what each record counts for, summed
 
-ticks-more : (w : Work) (n : ℕ) (bs : List Beat) (k : ℕ) → ((old : List ℕ) (p : Parts) (ram : List ℕ) → length (tape w bs old p ram .rows) ≡ k)
-    → (old : List ℕ) (p : Parts) (ram : List ℕ) → length (tape w (ticksThen n bs) old p ram .rows) ≡ n + k
-unfolding ticksThen tape
-ticks-more w zero bs k h old p ram = h old p ram ∙ omega arith
-ticks-more w (suc n) bs k h old p ram =
+unfoldable pub sumIn : (Record → ℕ) → List Record → ℕ
+sumIn f [] = 0
+sumIn f (r ∷ rs) = f r + sumIn f rs
+
+-- n rows, as many samples of four bytes, and q readings
+pub record Puts (n q : ℕ) (t : Tape) : Type 0 where
+  pub rows : length (t .rows) ≡ n
+  pub pcm : length (flatten (t .frames)) ≡ n * 4
+  pub readings : length (t .readings) ≡ q
+
+puts-as : {n m q r : ℕ} {t : Tape} → Puts n q t → n ≡ m → q ≡ r → Puts m r t
+puts-as h e f = record { rows = h .rows ∙ e; pcm = h .pcm ∙ ap (λ (k : ℕ). k * 4) e; readings = h .readings ∙ f }
+
+ticks-more : (w : Work) (n : ℕ) (bs : List Beat) (k q : ℕ) → ((old : List ℕ) (p : Parts) (ram : List ℕ) → Puts k q (tape w bs old p ram))
+    → (old : List ℕ) (p : Parts) (ram : List ℕ) → Puts (n + k) q (tape w (ticksThen n bs) old p ram)
+unfolding ticksThen tape flatten tickOf pairBytes
+ticks-more w zero bs k q h old p ram = rw (zero-add k) (h old p ram)
+ticks-more w (suc n) bs k q h old p ram =
     let t = tickOf w old p ram in
-    let e = ticks-more w n bs k h (drop 36 old) (t .parts) (t .ram) in
-    ap suc e ∙ omega arith
+    let e = ticks-more w n bs k q h (drop 36 old) (t .parts) (t .ram) in
+    let a = e .rows in
+    let b = e .pcm in
+    record { rows = omega (arith, a); pcm = omega (arith, b); readings = e .readings }
 
-pub row-each : (w : Work) (rs : List Record) (old : List ℕ) (p : Parts) (ram : List ℕ) → length (tape w (beats rs) old p ram .rows) ≡ ticksIn rs
-unfolding beats tape ticksIn
-row-each w [] old p ram = refl
-row-each w (Write i v ∷ rs) old p ram = row-each w rs old (writeParts i v p) ram ∙ omega arith
-row-each w (Ticks n ∷ rs) old p ram = ticks-more w n (beats rs) (ticksIn rs) (row-each w rs) old p ram
-row-each w (Reading r ∷ rs) old p ram = row-each w rs old p ram ∙ omega arith
+pub puts : (w : Work) (rs : List Record) (old : List ℕ) (p : Parts) (ram : List ℕ) → Puts (sumIn ticksOf rs) (sumIn readingsOf rs) (tape w (beats rs) old p ram)
+unfolding beats tape sumIn flatten
+puts w [] old p ram = record { rows = refl; pcm = refl; readings = refl }
+puts w (Write i v ∷ rs) old p ram = puts-as (puts w rs old (writeParts i v p) ram) (omega arith) (omega arith)
+puts w (Ticks n ∷ rs) old p ram = puts-as (ticks-more w n (beats rs) (sumIn ticksOf rs) (sumIn readingsOf rs) (puts w rs) old p ram) refl (omega arith)
+puts w (Reading r ∷ rs) old p ram =
+    let e = puts w rs old p ram in
+    let a = e .rows in
+    let b = e .pcm in
+    let c = e .readings in
+    record { rows = omega (arith, a); pcm = omega (arith, b); readings = omega (arith, c) }
 
--- the ticks of a log that is refused by nothing
-pub total-ticks : (rs : List Record) (stop t q T Q : ℕ) → total rs stop t q ≡ good T Q → T ≡ t + ticksIn rs
-unfolding total ticksIn
-total-ticks [] stop t q T Q =
-    tested (λ (m : Measured). m ≡ good T Q → T ≡ t + 0) (stop =? 0)
-    (λ _ e. let z : t ≡ T = ap (λ (m : Measured). m .ticks) e in omega (arith, z))
+-- the ticks and readings of a log that is refused by nothing
+pub total-sums : (rs : List Record) (stop t q T Q : ℕ) → total rs stop t q ≡ good T Q → (T ≡ t + sumIn ticksOf rs) × (Q ≡ q + sumIn readingsOf rs)
+unfolding total sumIn
+total-sums [] stop t q T Q =
+    tested (λ (m : Measured). m ≡ good T Q → (T ≡ t + 0) × (Q ≡ q + 0)) (stop =? 0)
+    (λ _ e. let z : t ≡ T = ap (λ (m : Measured). m .ticks) e in let y : q ≡ Q = ap (λ (m : Measured). m .readings) e in (omega (arith, z), omega (arith, y)))
     (λ f e. absurd (eqb-false stop 0 f (ap (λ (m : Measured). m .refusal) e)))
-total-ticks (r ∷ rs) stop t q T Q =
-    tested (λ (m : Measured). m ≡ good T Q → T ≡ t + (ticksOf r + ticksIn rs)) (32000 <? t + ticksOf r)
+total-sums (r ∷ rs) stop t q T Q =
+    tested (λ (m : Measured). m ≡ good T Q → (T ≡ t + (ticksOf r + sumIn ticksOf rs)) × (Q ≡ q + (readingsOf r + sumIn readingsOf rs))) (32000 <? t + ticksOf r)
     (λ _ e. let z : _≡_ {A = ℕ} 7 0 = ap (λ (m : Measured). m .refusal) e in absurd (omega (arith, z)))
-    (λ _ e. let z = total-ticks rs stop (t + ticksOf r) (q + readingsOf r) T Q e in omega (arith, z))
+    (λ _ e. let z = total-sums rs stop (t + ticksOf r) (q + readingsOf r) T Q e in let x = z .0 in let y = z .1 in (omega (arith, x), omega (arith, y)))
+
+pub measured-sums : (log : List ℕ) → measureOf log .refusal ≡ 0
+    → (measureOf log .ticks ≡ sumIn ticksOf (decode log .records)) × (measureOf log .readings ≡ sumIn readingsOf (decode log .records))
+measured-sums log z =
+    let m = measureOf log in
+    let t = total-sums (decode log .records) (decode log .stop) 0 0 (m .ticks) (m .readings) (taken log m refl z .all) in
+    (t .0 ∙ zero-add (sumIn ticksOf (decode log .records)), t .1 ∙ zero-add (sumIn readingsOf (decode log .records)))
 
 -- ---- records that differ only in what is a set's own
 

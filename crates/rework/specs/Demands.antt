@@ -8,7 +8,7 @@ use mathlib.Core.Path.{_≡_}
 use Prim.Native.Nat.{ℕ, zero, suc, _*_, _<_}
 use lib.IntN.{pos}
 use lib.ListN.{getD, length, drop}
-use Rattle.dsp.specs.Machine.{apart}
+use Rattle.dsp.specs.Machine.{newDsp, apart}
 use Rattle.dsp.specs.Registers.{Written, writeOf}
 use Rattle.dsp.specs.Mix.{Rendered, renderOf}
 use Rattle.dsp.specs.Sheet.{pairBytes, laneAt}
@@ -23,7 +23,7 @@ use Rattle.sitting.specs.Run.{Outcome, refusedBy as unrun, runWith, runOf}
 use Rattle.rework.specs.Alike.{without}
 use Rattle.rework.specs.Members.{modesOf, quiet, voicesIn}
 use Rattle.rework.specs.Differ.{Outside, SameBut, Value}
-use Rattle.rework.specs.Rework.{setOf, Left, refusedBy as unreworked, reworkOf}
+use Rattle.rework.specs.Rework.{setOf, Left, refusedBy as unreworked, reworkOf, reworkNewOf}
 
 -- ---- 1: "a refused call hands back the record it got and writes in no lent slice"; and zeros elsewhere
 
@@ -112,3 +112,12 @@ Demand3 =
     → length pcm ≡ length pcm₂ → length readings ≡ length readings₂
     → (let first = runOf d₁ ram log₁ pcm₁ sheet₁ readings₁ in
     Reworks s d₂ log₂ first (runOf d₂ ram log₂ pcm₂ sheet₂ readings₂) (reworkOf s d₂ (first .dsp) ram log₁ log₂ (first .sheet) pcm readings))
+
+-- the same of two sittings from `new`, the first of them run inside: a refusal leaves all as it was, and else there is the second run
+abbrev pub Demand3New : Type 0
+Demand3New =
+    (s : ℕ) (ram log₁ log₂ sheet pcm readings : List ℕ) → Bytes log₁ → Bytes log₂
+    → (let x = reworkNewOf s ram log₁ log₂ sheet pcm readings in
+    let second = runOf newDsp ram log₂ pcm sheet readings in
+    (x .refusal ≢ 0 → x ≡ unreworked (x .refusal) newDsp sheet pcm readings)
+    × (x .refusal ≡ 0 → (x .sheet ≡ second .sheet) × (x .readings ≡ second .readings) × (x .pcm ≡ second .pcm) × (x .dsp ≡ second .dsp)))

@@ -4,7 +4,7 @@ use mathlib.Core.List.{List}
 use Prim.Native.Nat.{ℕ, _+_, _*_}
 use lib.ListN.{getD, set, length}
 use Rattle.numbers.specs.Choice.{if_then_else_, _=?_}
-use Rattle.dsp.specs.Machine.{noVoice, Parts, apart, together}
+use Rattle.dsp.specs.Machine.{noVoice, newDsp, Parts, apart, together}
 use Rattle.dsp.specs.Fit.{fit}
 use Rattle.dsp.specs.Registers.{turns}
 use Rattle.dsp.specs.Mix.{bit}
@@ -13,7 +13,7 @@ use Rattle.dsp.specs.declared.registers.Dsp.{Dsp}
 use Rattle.dsp.specs.declared.tick.Work.{Work}
 use Rattle.log.specs.Log.{decode}
 use Rattle.log.specs.Measure.{measureOf}
-use Rattle.sitting.specs.Run.{Outcome, runWith}
+use Rattle.sitting.specs.Run.{Outcome, runWith, runOf}
 use Rattle.rework.specs.Alike.{alike}
 use Rattle.rework.specs.Members.{modesOf, quiet, members, voicesIn}
 
@@ -112,3 +112,16 @@ reworkOf s start end ram log₁ log₂ sheet pcm readings =
     if refusalOf s start end ram log₁ log₂ =? 0 then
     reworked (setOf s start log₂) start end (runWith (only (setOf s start log₂)) start ram log₂ pcm sheet readings)
     else refusedBy (refusalOf s start end ram log₁ log₂) start sheet pcm readings
+
+-- ---- two sittings from `new`, the first of them run inside
+
+abbrev pub afterFirst : ℕ → List ℕ → List ℕ → List ℕ → Outcome → Left
+afterFirst s ram log₁ log₂ o =
+    if o .refusal =? 0 then reworkOf s newDsp (o .dsp) ram log₁ log₂ (o .sheet) (o .pcm) (o .readings) else
+    refusedBy (o .refusal) newDsp (o .sheet) (o .pcm) (o .readings)
+
+-- all is checked before the first tick; 10 is the first run's own, whose log has as many ticks and readings as the second
+unfoldable pub reworkNewOf : ℕ → List ℕ → List ℕ → List ℕ → List ℕ → List ℕ → List ℕ → Left
+reworkNewOf s ram log₁ log₂ sheet pcm readings =
+    if refusalOf s newDsp newDsp ram log₁ log₂ =? 0 then afterFirst s ram log₁ log₂ (runOf newDsp ram log₁ pcm sheet readings) else
+    refusedBy (refusalOf s newDsp newDsp ram log₁ log₂) newDsp sheet pcm readings

@@ -9,3 +9,4 @@ mod sets;
 pub use modes::Modes;
 pub use reworking::Reworked;
 pub use reworking::rework;
+pub use reworking::rework_new;

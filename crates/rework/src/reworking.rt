@@ -3,7 +3,7 @@ ghost use mathlib.Core.Path.{_≡_};
 ghost use lib.ListN.{length};
 ghost use Rattle.numbers.specs.Choice.{if_then_else_, _=?_};
 ghost use Rattle.rework.specs.Members.{modesOf};
-ghost use Rattle.rework.specs.Rework.{refusalOf, setOf, Left, reworkOf};
+ghost use Rattle.rework.specs.Rework.{refusalOf, setOf, Left, reworkOf, reworkNewOf};
 use crate::ending::end_of;
 use crate::joining::walk;
 use crate::likeness::are_alike;
@@ -12,6 +12,7 @@ use crate::sets::count;
 use dsp::Dsp;
 use dsp::Work;
 use log::measure;
+use sitting::run_new;
 use sitting::run_with;
 
 const RAM_SIZE: usize = 0x10000;
@@ -152,4 +153,41 @@ pub fn rework(
         members: c.members,
         count: count(c.members),
     }
+}
+
+// Two sittings from the power-on record: runs the first, and reworks it to the second. What is lent serves both runs. Refuses 1, 3 to
+// 9, 12, 11, 10, all before the first tick.
+pub fn rework_new(
+    named: u8,
+    ram: &[u8],
+    old_log: &[u8],
+    new_log: &[u8],
+    sheet: &mut [u8],
+    pcm: &mut [u8],
+    readings: &mut [u8],
+) -> Reworked
+    ensures { λ r. ⌜ _≡_ {A = Left} (record { refusal = r .refusal; dsp = r .dsp; members = r .members; count = r .count; sheet = now (sheet .exit); pcm = now (pcm .exit); readings = now (readings .exit) }) (reworkNewOf named (now (ram .entry)) (now («old_log» .entry)) (now («new_log» .entry)) (now (sheet .entry)) (now (pcm .entry)) (now (readings .entry))) ⌝ }
+{
+    let start = Dsp::new();
+    let c = checked(named, start, start, ram, old_log, new_log);
+    if c.refusal != 0 {
+        return refused(c.refusal, start);
+    }
+    let mut own = blank_ram();
+    copy(ram, &mut own);
+    let first = run_new(&mut own, old_log, pcm, sheet, readings);
+    if first.refusal != 0 {
+        return refused(first.refusal, start);
+    }
+    rework(
+        named,
+        start,
+        first.dsp,
+        ram,
+        old_log,
+        new_log,
+        sheet,
+        pcm,
+        readings,
+    )
 }
