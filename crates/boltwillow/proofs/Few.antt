@@ -1,0 +1,39 @@
+-- A rework tells of eight voices at most.
+use mathlib.Core.List.{List}
+use mathlib.Core.Path.{_≡_, sym, subst}
+use Prim.Native.Nat.{ℕ, zero, suc, _+_, _≤_}
+use native.Mathlib.Nat.{le-refl}
+use native.Mathlib.Omega.{arith}
+use Rattle.numbers.specs.Choice.{_=?_}
+use Rattle.numbers.proofs.Choice.{chosen}
+use Rattle.dsp.specs.Machine.{newDsp}
+use Rattle.dsp.specs.Registers.{turns}
+use Rattle.dsp.specs.Mix.{bit}
+use Rattle.dsp.specs.declared.registers.Dsp.{Dsp}
+use Rattle.sitting.specs.Run.{runWith, runOf}
+use Rattle.rework.specs.Members.{counted, voicesIn}
+use Rattle.rework.specs.Rework.{Left, refusalOf, setOf, only, reworkOf, reworkNewOf}
+
+counted-le : (a n : ℕ) → turns (counted a) n 0 ≤ n
+unfolding turns
+counted-le a zero = le-refl 0
+counted-le a (suc n) = let l = counted-le a n in chosen (λ (k : ℕ). k ≤ suc n) (bit a n) (omega (arith, l)) (omega (arith, l))
+
+voices-le : (a : ℕ) → voicesIn a ≤ 8
+unfolding voicesIn
+voices-le a = counted-le a 8
+
+abbrev Few : Left → Type 0
+Few x = x .count ≤ 8
+
+few : (s : ℕ) (start end : Dsp) (ram log₁ log₂ sheet pcm readings : List ℕ) → Few (reworkOf s start end ram log₁ log₂ sheet pcm readings)
+unfolding reworkOf
+few s start end ram log₁ log₂ sheet pcm readings =
+    let a = setOf s start log₂ in
+    chosen Few (refusalOf s start end ram log₁ log₂ =? 0) (chosen Few (runWith (only a) start ram log₂ pcm sheet readings .refusal =? 0) (voices-le a) (omega arith)) (omega arith)
+
+pub few-new : (s : ℕ) (ram log₁ log₂ sheet pcm readings : List ℕ) {x : Left} → x ≡ reworkNewOf s ram log₁ log₂ sheet pcm readings → x .count ≤ 8
+unfolding reworkNewOf
+few-new s ram log₁ log₂ sheet pcm readings e =
+    let o = runOf newDsp ram log₁ pcm sheet readings in
+    subst Few (sym e) (chosen Few (refusalOf s newDsp newDsp ram log₁ log₂ =? 0) (chosen Few (o .refusal =? 0) (few s newDsp (o .dsp) ram log₁ log₂ (o .sheet) (o .pcm) (o .readings)) (omega arith)) (omega arith))

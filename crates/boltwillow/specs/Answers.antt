@@ -1,0 +1,28 @@
+-- What a caller in C gets of a run and of a rework: a number, and the lent slices.
+use mathlib.Core.List.{List}
+use Prim.Native.Nat.{ℕ, _+_, _*_}
+use Rattle.sitting.specs.Run.{Outcome}
+use Rattle.rework.specs.Rework.{Left}
+
+pub record Played : Type 0 where
+  pub refusal : ℕ
+  pub ram : List ℕ
+  pub pcm : List ℕ
+  pub sheet : List ℕ
+  pub readings : List ℕ
+
+abbrev pub playedOf : Outcome → Played
+playedOf o = record { refusal = o .refusal; ram = o .ram; pcm = o .pcm; sheet = o .sheet; readings = o .readings }
+
+pub record Reworked : Type 0 where
+  pub answer : ℕ
+  pub sheet : List ℕ
+  pub pcm : List ℕ
+  pub readings : List ℕ
+
+-- in one number: the refusal, the set A above it, and above that the number of voices in A
+abbrev pub answerOf : Left → ℕ
+answerOf x = x .refusal + 0x100 * x .members + 0x10000 * x .count
+
+abbrev pub reworkedOf : Left → Reworked
+reworkedOf x = record { answer = answerOf x; sheet = x .sheet; pcm = x .pcm; readings = x .readings }
