@@ -1,6 +1,6 @@
 # lesson: builds the program `bench` and plays a lesson by it. remark: builds the program `remark` and asks it what of a sitting
-# has to be marked again after a change of voice 3. test: the gate.
-.PHONY: lesson remark test
+# has to be marked again after a change of voice 3. c: builds the library for C, and links and runs an example. test: the gate.
+.PHONY: lesson remark c test
 lesson:
 	rt check bench
 	tools/lesson/assemble lessons/voices.txt target/lesson
@@ -20,5 +20,7 @@ remark:
 	printf '\010' >target/remark/named.bin
 	@tools/runner || echo "It is not asked: target/bin/remark is made for x86-64 alone."
 	@if tools/runner; then cd target/remark && ../../tools/runner ../bin/remark <log.bin; fi
+c:
+	tools/c/run
 test:
 	.ci/run
