@@ -1,4 +1,6 @@
-/* Calls the compiled Rattle program's run, which is sitting's run_new: the log of bench.rs over the same RAM. */
+/* driver LOG RUNS: calls the compiled Rattle program's run, which is sitting's run_new: the log of bench.rs over the same RAM.
+   driver LOG RUNS NEW NAMED: calls run, then its redo, the same run with a rework to the log NEW behind it, and prints by how much
+   the second takes longer; NAMED is the mask of voices. With 0 runs it calls redo once. */
 #include <stdint.h>
 #include <stdio.h>
 #include <stdlib.h>
@@ -6,7 +8,8 @@
 
 typedef struct { uint8_t *p; uint64_t n; } slice;
 uint8_t rt_run(slice *ram, slice *log, slice *pcm, slice *sheet, slice *readings);
-static uint8_t ram[65536], logged[65536], pcm[32000 * 4], sheet[32000 * 36], readings[20000];
+uint8_t rt_redo(uint8_t named, slice *ram, slice *old, slice *new, slice *pcm, slice *sheet, slice *readings);
+static uint8_t ram[65536], logged[65536], other[65536], pcm[32000 * 4], sheet[32000 * 36], readings[20000];
 
 static void fill(void) {
     uint32_t x = 12345;
@@ -41,20 +44,44 @@ static uint64_t ticks_of(const uint8_t *log, uint64_t n) {
     return ticks;
 }
 
+static uint64_t load(const char *name, uint8_t *to) {
+    FILE *file = fopen(name, "rb");
+    if (!file) exit(2);
+    uint64_t size = fread(to, 1, 65536, file);
+    fclose(file);
+    return size;
+}
+
+static int64_t now(void) {
+    struct timespec t;
+    clock_gettime(CLOCK_MONOTONIC, &t);
+    return t.tv_sec * 1000000000LL + t.tv_nsec;
+}
+
 int main(int count, char **words) {
-    if (count != 3) return 2;
-    FILE *file = fopen(words[1], "rb");
-    if (!file) return 2;
-    uint64_t size = fread(logged, 1, sizeof logged, file), ticks = ticks_of(logged, size);
+    if (count != 3 && count != 5) return 2;
+    uint64_t size = load(words[1], logged), ticks = ticks_of(logged, size);
+    uint64_t new_size = count == 5 ? load(words[3], other) : 0;
+    uint8_t named = count == 5 ? strtol(words[4], 0, 0) : 0;
+    slice lent = {ram, 65536}, log = {logged, size}, new = {other, new_size};
+    slice samples = {pcm, ticks * 4}, rows = {sheet, ticks * 36}, told = {readings, 0};
     uint8_t refusal = 0;
     for (int k = atoi(words[2]); k > 0; k--) {
         fill();
-        slice lent = {ram, 65536}, log = {logged, size}, samples = {pcm, ticks * 4}, rows = {sheet, ticks * 36}, told = {readings, 0};
-        struct timespec a, b;
-        clock_gettime(CLOCK_MONOTONIC, &a);
+        int64_t begun = now();
         refusal |= rt_run(&lent, &log, &samples, &rows, &told);
-        clock_gettime(CLOCK_MONOTONIC, &b);
-        printf("%lld\n", (b.tv_sec - a.tv_sec) * 1000000000LL + (b.tv_nsec - a.tv_nsec));
+        int64_t took = now() - begun;
+        if (count == 5) {
+            fill();
+            begun = now();
+            refusal |= rt_redo(named, &lent, &log, &new, &samples, &rows, &told);
+            took = now() - begun - took;
+        }
+        printf("%lld\n", (long long)took);
+    }
+    if (count == 5 && atoi(words[2]) == 0) {
+        fill();
+        refusal |= rt_redo(named, &lent, &log, &new, &samples, &rows, &told);
     }
     digest("RAM", ram, 65536);
     digest("PCM", pcm, ticks * 4);

@@ -1,19 +1,16 @@
 // The program `bench` (document 01): the log on standard input, RAM from ram.bin, the samples to out.pcm, the readings
 // on standard output. What cannot be read or written is named on standard error, and no END line follows: a program of
 // this language has no exit status of its own.
-mod input;
-mod lines;
 mod running;
 
 ghost use Prim.Native.Nat.{_≤_};
 ghost use lib.ListN.{length};
-use input::Loaded;
-use input::Took;
-use lines::complain;
 use log::Measured;
+use report::input;
+use report::input::Loaded;
+use report::lines;
+use report::lines::complain;
 use running::Ran;
-
-const LOG_MOST: usize = 60000;
 
 // RAM is checked before the log is read.
 fn main() {
@@ -27,11 +24,14 @@ fn main() {
 
 // One byte more than a log may have: input without an end is over the limit, and no more of it is read.
 fn with_ram(ram: &mut [u8]) {
-    let mut log = io::large_buffer();
-    match input::fill(libc::STDIN_FILENO, &mut log[..LOG_MOST + 1]) {
-        Took::Bytes(n) => with_log(ram, &log[..n]),
-        Took::Failed => complain(b"bench: cannot read standard input\n"),
+    let mut log = [0u8; 60001];
+    let took = input::fill(libc::STDIN_FILENO, &mut log);
+    if took.failed {
+        complain(b"bench: cannot read standard input\n");
+        return;
     }
+    let n = took.size;
+    with_log(ram, &log[..n]);
 }
 
 // The whole log is checked before out.pcm is opened.

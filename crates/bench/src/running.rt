@@ -2,8 +2,8 @@
 ghost use Prim.Native.Nat.{_≤_, _<_};
 ghost use lib.ListN.{length};
 ghost use Rattle.bench.specs.Turn.{Fits, Done};
-use crate::lines;
 use dsp::Dsp;
+use report::lines;
 use sitting::Heard;
 use sitting::Stage;
 use sitting::run_part;

@@ -2,11 +2,9 @@
 // the oracle does from the given Rust: "longer logs a program runs and compares" (document 01). tools/oracle makes the
 // cases.
 mod cases;
-mod digest;
-mod left;
-mod lines;
 mod ticks;
-mod whole;
+
+use report::lines;
 
 fn main() {
     let fd = os::open_read(b"cases");

@@ -1,16 +1,16 @@
 // A log that `run_new` took, run again by `write_reg`, `step` and `render_audio_single`, with a digest over every tick.
-use crate::digest::EMPTY;
-use crate::digest::with_byte;
-use crate::digest::with_bytes;
-use crate::digest::with_reads;
-use crate::digest::with_registers;
-use crate::digest::with_sample;
-use crate::left::Left;
-use crate::lines;
 use dsp::Dsp;
 use log::Next;
 use log::Record;
 use log::read;
+use report::digest::EMPTY;
+use report::digest::with_byte;
+use report::digest::with_bytes;
+use report::digest::with_reads;
+use report::digest::with_registers;
+use report::digest::with_sample;
+use report::left::Left;
+use report::lines;
 
 // How far a run has come: the chip, the digests of samples, readings and every tick, and a refusal that ends it.
 struct Run {

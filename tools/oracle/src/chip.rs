@@ -1,4 +1,4 @@
-//! Running a log on the given Rust, from `new`, and printing what it gives.
+//! Playing logs on the given Rust and printing what they give.
 
 use apu::dsp::Dsp;
 use apu::memory::RawARAM;
@@ -10,60 +10,85 @@ use crate::sheet;
 /// Left and right, 16 bits each.
 const SAMPLE_SIZE: usize = 4;
 
-/// All that a run leaves behind.
-pub struct Outcome {
+/// What the records of a log put out.
+pub struct Played {
     /// Register and value of each reading.
     pub readings: Vec<(u8, u8)>,
     pub ticks: usize,
-    pub registers: Vec<u8>,
-    pub ram: Box<RawARAM>,
     /// Left, right, 16 bits, low byte first.
     pub pcm: Vec<u8>,
     /// 36 bytes a tick.
     pub sheet: Vec<u8>,
+    /// After the last record.
+    pub registers: Vec<u8>,
+}
+
+/// All that a run leaves behind.
+pub struct Outcome {
+    pub played: Played,
+    pub ram: Box<RawARAM>,
     /// Digest of, tick by tick, the 128 registers after it, EDL and PMON as
     /// used, its sample and RAM.
     pub trace: u64,
 }
 
-/// Checks RAM, then the log, then runs it (document 01's order).
+pub fn ram_of(bytes: Vec<u8>) -> Result<Box<RawARAM>, Refusal> {
+    bytes.try_into().map_err(|_| Refusal::RamLength)
+}
+
+/// Checks RAM, then the log, then runs it from `new` (document 01's order).
 pub fn run(log: &[u8], ram: Vec<u8>) -> Result<Outcome, Refusal> {
-    let mut ram: Box<RawARAM> = ram.try_into().map_err(|_| Refusal::RamLength)?;
+    let mut ram = ram_of(ram)?;
     let records = log::read(log)?;
 
-    let mut dsp = Dsp::new();
+    let mut trace = Digest::new();
+    let played = play(&mut Dsp::new(), &mut ram, &records, |dsp, ram, sample| {
+        trace.bytes(&registers(dsp));
+        trace.bytes(&[dsp.edl(), dsp.pmon()]);
+        trace.bytes(sample);
+        trace.bytes(ram);
+    });
+    Ok(Outcome {
+        played,
+        ram,
+        trace: trace.0,
+    })
+}
+
+/// Plays the records from where the chip stands. `after` sees every tick:
+/// chip and RAM as it leaves them, and its sample.
+pub fn play(
+    dsp: &mut Dsp,
+    ram: &mut RawARAM,
+    records: &[Record],
+    mut after: impl FnMut(&Dsp, &RawARAM, &[u8]),
+) -> Played {
     let mut readings = Vec::new();
     let mut ticks = 0;
     let mut pcm = Bytes::new();
     let mut sheet = Bytes::new();
-    let mut trace = Digest::new();
     for record in records {
-        match record {
+        match *record {
             Record::Write { register, value } => dsp.write_reg(index(register, value), value),
             Record::Reading(register) => readings.push((register, dsp.read_reg(register))),
             Record::Ticks(count) => {
                 ticks += usize::from(count);
                 for _ in 0..count {
-                    tick(&mut dsp, &mut ram, &mut pcm);
-                    sheet::put_row(&mut sheet, &dsp);
-                    trace.bytes(&registers(&dsp));
-                    trace.bytes(&[dsp.edl(), dsp.pmon()]);
-                    trace.bytes(&pcm.0[pcm.0.len() - SAMPLE_SIZE..]);
-                    trace.bytes(&ram[..]);
+                    tick(dsp, ram, &mut pcm);
+                    sheet::put_row(&mut sheet, dsp);
+                    after(dsp, ram, &pcm.0[pcm.0.len() - SAMPLE_SIZE..]);
                 }
             }
             Record::End => {}
         }
     }
-    Ok(Outcome {
+    Played {
         readings,
         ticks,
-        registers: registers(&dsp),
-        ram,
         pcm: pcm.0,
         sheet: sheet.0,
-        trace: trace.0,
-    })
+        registers: registers(dsp),
+    }
 }
 
 /// The index that a log's write is made with: an odd value goes with bit 7
@@ -88,24 +113,31 @@ fn tick(dsp: &mut Dsp, ram: &mut RawARAM, pcm: &mut Bytes) {
     pcm.samples(&[left, right]);
 }
 
+pub fn report(result: &Result<Outcome, Refusal>) -> String {
+    match result {
+        Ok(outcome) => lines(&outcome.played, &outcome.ram),
+        Err(refusal) => refused(*refusal),
+    }
+}
+
+pub fn refused(refusal: Refusal) -> String {
+    format!("REFUSED {}\n", refusal as u8)
+}
+
 /// The program's lines of document 01 (Q and END), then the registers and
 /// the digests of RAM, PCM and sheet.
-pub fn report(result: &Result<Outcome, Refusal>) -> String {
-    let outcome = match result {
-        Ok(outcome) => outcome,
-        Err(refusal) => return format!("REFUSED {}\n", *refusal as u8),
-    };
+pub fn lines(played: &Played, ram: &RawARAM) -> String {
     let mut text = String::new();
-    for (number, (register, value)) in (1..).zip(&outcome.readings) {
+    for (number, (register, value)) in (1..).zip(&played.readings) {
         text += &format!("Q {number} {register:02X} {value:02X}\n");
     }
-    text += &format!("END {} {}\nREG", outcome.ticks, outcome.readings.len());
-    for register in &outcome.registers {
+    text += &format!("END {} {}\nREG", played.ticks, played.readings.len());
+    for register in &played.registers {
         text += &format!(" {register:02X}");
     }
-    text += &format!("\nRAM {:016X}\n", digest(&outcome.ram[..]));
-    text += &format!("PCM {:016X}\n", digest(&outcome.pcm));
-    text += &format!("SHEET {:016X}\n", digest(&outcome.sheet));
+    text += &format!("\nRAM {:016X}\n", digest(ram));
+    text += &format!("PCM {:016X}\n", digest(&played.pcm));
+    text += &format!("SHEET {:016X}\n", digest(&played.sheet));
     text
 }
 
@@ -136,7 +168,7 @@ mod tests {
         wanted[3] = 1;
         wanted[36 + 3] = 1;
         wanted[72 + 31] = 1;
-        assert_eq!(outcome.sheet, wanted);
+        assert_eq!(outcome.played.sheet, wanted);
         let line = format!("\nSHEET {:016X}\n", digest(&wanted));
         assert!(report(&Ok(outcome)).ends_with(&line));
     }
@@ -156,8 +188,8 @@ mod tests {
     fn an_odd_value_goes_with_bit_7_set() {
         assert_eq!([index(PMON, 0xFF), index(PMON, 0xFE)], [0xAD, 0x2D]);
         let outcome = run(b"RW\x2D\xFFRW\x7D\xFEND", zero_ram()).ok().unwrap();
-        assert_eq!(outcome.registers[0x2D], 0xFF);
-        assert_eq!(outcome.registers[0x7D], 0xFE);
+        assert_eq!(outcome.played.registers[0x2D], 0xFF);
+        assert_eq!(outcome.played.registers[0x7D], 0xFE);
     }
 
     /// Document 01: KON before tick 1 first runs the voice on tick 6. Direct

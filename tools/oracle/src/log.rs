@@ -13,10 +13,11 @@ pub enum Record {
     End,
 }
 
-/// Document 01's refusal numbers, those that a run from `new` can meet.
+/// Document 01's refusal numbers.
 #[derive(Clone, Copy, Debug, PartialEq)]
 pub enum Refusal {
     RamLength = 1,
+    UnfitRecord = 2,
     LogTooLong = 3,
     UnknownMark = 4,
     StopsInside = 5,
@@ -24,6 +25,9 @@ pub enum Refusal {
     BadTicks = 7,
     NoEnd = 8,
     Tail = 9,
+    LentLength = 10,
+    EchoOn = 11,
+    LogsDiffer = 12,
 }
 
 impl Record {

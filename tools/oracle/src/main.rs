@@ -13,13 +13,15 @@ mod log;
 mod make;
 mod random;
 mod registers;
+mod rework;
 mod selfcheck;
 mod sheet;
 mod trace;
 
 const USAGE: &str = "usage: oracle nibble | block | interpolate | envelope | noise | selfcheck \
     | run LOG RAM [PCM_OUT [RAM_OUT]] | make KIND SEED LOG_OUT RAM_OUT \
-    | trace CASES FOLDER | cases KIND COUNT SEED OUTFOLDER";
+    | trace CASES FOLDER | cases KIND COUNT SEED OUTFOLDER \
+    | rework PAIRS FOLDER | pairs KIND COUNT SEED OUTFOLDER";
 
 fn main() -> ExitCode {
     let words: Vec<String> = std::env::args().skip(1).collect();
@@ -47,7 +49,15 @@ fn command(words: &[&str]) -> Result<(), String> {
         ["run", log, ram, outputs @ ..] if outputs.len() <= 2 => run(log, ram, outputs),
         ["make", kind, seed, log, ram] => make(kind, seed, log, ram),
         ["trace", cases, folder] => trace(cases, folder),
-        ["cases", kind, count, seed, folder] => cases(kind, count, seed, folder),
+        ["cases", kind, count, seed, folder] => {
+            let (count, seed) = (number(count)?, number(seed)?);
+            store(&make::cases::cases(kind, count as usize, seed)?, folder)
+        }
+        ["rework", pairs, folder] => rework(pairs, folder),
+        ["pairs", kind, count, seed, folder] => {
+            let (count, seed) = (number(count)?, number(seed)?);
+            store(&make::pairs::pairs(kind, count as usize, seed)?, folder)
+        }
         _ => Err(USAGE.to_string()),
     }
 }
@@ -56,7 +66,10 @@ fn run(log: &str, ram: &str, outputs: &[&str]) -> Result<(), String> {
     let result = chip::run(&read(log)?, read_ram(ram)?);
     // A refused log opens no output.
     if let Ok(outcome) = &result {
-        for (path, bytes) in outputs.iter().zip([&outcome.pcm[..], &outcome.ram[..]]) {
+        for (path, bytes) in outputs
+            .iter()
+            .zip([&outcome.played.pcm[..], &outcome.ram[..]])
+        {
             write(path, bytes)?;
         }
     }
@@ -69,11 +82,14 @@ fn trace(cases: &str, folder: &str) -> Result<(), String> {
     print(text.as_bytes())
 }
 
+fn rework(pairs: &str, folder: &str) -> Result<(), String> {
+    let pairs = cases::read(&read(pairs)?)?;
+    let text = rework::report(&pairs, |image| read_ram(&cases::ram_path(folder, image)))?;
+    print(text.as_bytes())
+}
+
 /// Prints what each case is called, if it has a name.
-fn cases(kind: &str, count: &str, seed: &str, folder: &str) -> Result<(), String> {
-    let count = count.parse().map_err(|_| format!("{count} is no count"))?;
-    let seed = seed.parse().map_err(|_| format!("{seed} is no seed"))?;
-    let made = make::cases::cases(kind, count, seed)?;
+fn store<C: cases::Stored>(made: &make::cases::Made<C>, folder: &str) -> Result<(), String> {
     write(&format!("{folder}/cases"), &cases::bytes(&made.cases))?;
     for (image, ram) in (0..).zip(&made.rams) {
         write(&cases::ram_path(folder, image), ram)?;
@@ -81,9 +97,12 @@ fn cases(kind: &str, count: &str, seed: &str, folder: &str) -> Result<(), String
     print(made.names.as_bytes())
 }
 
+fn number(word: &str) -> Result<u64, String> {
+    word.parse().map_err(|_| format!("{word} is no number"))
+}
+
 fn make(kind: &str, seed: &str, log: &str, ram: &str) -> Result<(), String> {
-    let seed = seed.parse().map_err(|_| format!("{seed} is no seed"))?;
-    let made = make::make(kind, seed).ok_or(format!("{kind} is no kind of log"))?;
+    let made = make::make(kind, number(seed)?).ok_or(format!("{kind} is no kind of log"))?;
     write(log, &made.log)?;
     write(ram, &made.ram)
 }

@@ -5,6 +5,7 @@ pub mod cases;
 mod damage;
 mod directed;
 mod limits;
+pub mod pairs;
 mod plain;
 mod scenes;
 

@@ -58,7 +58,7 @@ fn copy(dsp: &Dsp) -> Dsp {
 #[cfg(test)]
 mod tests {
     use super::*;
-    use crate::chip::{self, Outcome};
+    use crate::chip::{self, Played};
     use crate::log::{self, Record};
     use crate::make;
 
@@ -144,7 +144,7 @@ mod tests {
 
     /// The log with other values written. Both changes below are to the mix
     /// alone, of which nothing reaches the echo.
-    fn mixed_by(log: &[u8], change: fn(u8, u8) -> u8, ram: &[u8]) -> Outcome {
+    fn mixed_by(log: &[u8], change: fn(u8, u8) -> u8, ram: &[u8]) -> Played {
         let mut changed = log::read(log).unwrap();
         for record in &mut changed {
             if let Record::Write { register, value } = record {
@@ -153,7 +153,7 @@ mod tests {
         }
         changed.push(Record::End);
         let log: Vec<u8> = changed.iter().flat_map(|record| record.bytes()).collect();
-        chip::run(&log, ram.to_vec()).unwrap()
+        chip::run(&log, ram.to_vec()).unwrap().played
     }
 
     fn without_reset(register: u8, value: u8) -> u8 {

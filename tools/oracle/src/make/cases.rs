@@ -16,8 +16,8 @@ const ONE_DAMAGED_IN: usize = 4;
 /// How the bytes of a random log come from its records.
 type Encode = fn(&mut Random, Vec<Record>) -> Vec<u8>;
 
-pub struct Made {
-    pub cases: Vec<Case>,
+pub struct Made<C> {
+    pub cases: Vec<C>,
     pub rams: Vec<Vec<u8>>,
     /// A line for each case that has a name: its number, then the name.
     pub names: String,
@@ -25,7 +25,7 @@ pub struct Made {
 
 /// `random`: so many random cases, all valid. `mixed`: the same with some of
 /// them damaged. `directed`: those that are named, then so many random ones.
-pub fn cases(kind: &str, count: usize, seed: u64) -> Result<Made, String> {
+pub fn cases(kind: &str, count: usize, seed: u64) -> Result<Made<Case>, String> {
     let mut random = Random::new(seed);
     let made = match kind {
         "random" => with_random(nothing(), &mut random, count, IMAGES, whole),
@@ -39,7 +39,7 @@ pub fn cases(kind: &str, count: usize, seed: u64) -> Result<Made, String> {
     Ok(made)
 }
 
-fn nothing() -> Made {
+fn nothing() -> Made<Case> {
     Made {
         cases: Vec::new(),
         rams: Vec::new(),
@@ -47,7 +47,7 @@ fn nothing() -> Made {
     }
 }
 
-fn stored(random: &mut Random, count: usize) -> Made {
+fn stored(random: &mut Random, count: usize) -> Made<Case> {
     let mut made = with_random(directed::all(), random, count, IMAGES_STORED, whole);
     made.rams.extend(directed::wrong_rams());
     made
@@ -67,12 +67,12 @@ fn some_damaged(random: &mut Random, records: Vec<Record>) -> Vec<u8> {
 
 /// Random logs after what is there. Each takes one of a few new images.
 fn with_random(
-    made: Made,
+    made: Made<Case>,
     random: &mut Random,
     count: usize,
     images: usize,
     bytes_of: Encode,
-) -> Made {
+) -> Made<Case> {
     let banks: Vec<_> = (0..images).map(|_| bank::bank(random)).collect();
     let Made {
         mut cases,

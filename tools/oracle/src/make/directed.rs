@@ -3,11 +3,11 @@
 //! tables cite the rule above each row.
 
 mod echo;
-mod image;
+pub mod image;
 mod keys;
 mod mix;
 mod refused;
-mod script;
+pub mod script;
 mod voices;
 
 use super::cases::Made;
@@ -19,7 +19,7 @@ use script::Script;
 pub type Named = (&'static str, fn(&mut Script));
 
 /// All of them run on the one image, but for those whose image is no RAM.
-pub fn all() -> Made {
+pub fn all() -> Made<Case> {
     let named: Vec<_> = played().into_iter().chain(refused::cases()).collect();
     let line = |(number, (name, _)): (usize, &(&str, Case))| format!("{number} {name}\n");
     Made {

@@ -18,24 +18,14 @@ pub fn plain(random: &mut Random, ticks: usize) -> (Vec<Record>, Vec<u8>) {
 
 /// The same for a RAM image that is there already.
 pub fn records(random: &mut Random, dir: u8, ticks: usize) -> Vec<Record> {
-    let loud = random.once_in(2);
-    let mut log = Plain {
-        random,
-        dir,
-        loud,
-        left: ticks,
-        records: Vec::new(),
-    };
+    let mut log = Plain::new(random, dir, ticks);
     log.start();
-    while log.left > 0 {
-        for _ in 0..log.random.below(5) {
-            log.action();
-        }
-        log.some_ticks();
-    }
-    log.read(ENDX);
-    log.records.push(Record::End);
-    log.records
+    log.ended()
+}
+
+/// The same for a chip that is set up already.
+pub fn more(random: &mut Random, dir: u8, ticks: usize) -> Vec<Record> {
+    Plain::new(random, dir, ticks).ended()
 }
 
 pub struct Plain<'a> {
@@ -48,7 +38,31 @@ pub struct Plain<'a> {
     records: Vec<Record>,
 }
 
-impl Plain<'_> {
+impl<'a> Plain<'a> {
+    fn new(random: &'a mut Random, dir: u8, ticks: usize) -> Self {
+        let loud = random.once_in(2);
+        Plain {
+            random,
+            dir,
+            loud,
+            left: ticks,
+            records: Vec::new(),
+        }
+    }
+
+    /// All the ticks, with actions between them, and the end record.
+    fn ended(mut self) -> Vec<Record> {
+        while self.left > 0 {
+            for _ in 0..self.random.below(5) {
+                self.action();
+            }
+            self.some_ticks();
+        }
+        self.read(ENDX);
+        self.records.push(Record::End);
+        self.records
+    }
+
     pub fn set(&mut self, register: u8, value: u8) {
         self.records.push(Record::Write { register, value });
     }

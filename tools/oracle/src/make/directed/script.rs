@@ -20,14 +20,19 @@ pub struct Script {
 impl Script {
     /// Sound can be heard, the echo writes nothing, no voice is set up.
     pub fn new() -> Self {
-        let mut script = Script {
-            records: Vec::new(),
-        };
+        let mut script = Script::empty();
         script.set(FLG, NO_ECHO_WRITES);
         script.set(DIR, DIRECTORY);
         script.set(MVOL_LEFT, 0x7F);
         script.set(MVOL_RIGHT, 0x60);
         script
+    }
+
+    /// For a chip that is set up already.
+    pub fn empty() -> Self {
+        Script {
+            records: Vec::new(),
+        }
     }
 
     pub fn ended(mut self) -> Vec<Record> {

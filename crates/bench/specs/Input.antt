@@ -1,8 +1,0 @@
--- What is read lies within the buffer.
-use Prim.Native.Nat.{ℕ, _≤_}
-use Rattle.bench.specs.declared.input.Took.{Took}
-use Rattle.bench.specs.declared.input.Took.the-variants.{Bytes, Failed}
-
-abbrev pub Within : ℕ → Took → Type 0
-Within size (Bytes n) = n ≤ size
-Within size Failed = Unit {0}

@@ -1,0 +1,198 @@
+// A pair of sittings: the first run, then reworked to the second.
+ghost use Prim.Native.Nat.{_<_};
+use dsp::Dsp;
+use log::measure;
+use report::cases::image;
+use report::digest::EMPTY;
+use report::digest::with_bytes;
+use report::lines;
+use report::runs::least;
+use report::runs::run_cut;
+use report::runs::tell;
+use rework::Reworked;
+use rework::rework;
+use sitting::Ran;
+
+// The number of the RAM image, the mask of the named voices; which slice is lent a byte short or a byte long; which records are
+// unfit: bit 0 the new start record, bit 1 the old end record.
+pub struct Asked {
+    pub ram: u8,
+    pub named: u8,
+    pub lent: u8,
+    pub unfit: u8,
+}
+
+const SHORT_PCM: u8 = 1;
+
+const SHORT_SHEET: u8 = 3;
+
+const SHORT_READINGS: u8 = 5;
+
+// PMON is even in a fit record.
+pub fn spoiled(dsp: Dsp, unfit: bool) -> Dsp {
+    let mut d = dsp;
+    if unfit {
+        d.pmon = 1;
+    }
+    d
+}
+
+// The record that the rework gives back. The first run has a RAM of its own.
+pub fn redo(asked: Asked, from: Dsp, start: Dsp, old: &[u8], new: &[u8]) -> Dsp
+    requires { ⌜ asked .ram < 10 ⌝ }
+{
+    let mut ram = [0u8; 65537];
+    let n = image(asked.ram, &mut ram);
+    let mut own = ram;
+    redo_room(asked, from, start, &ram[..n], &mut own[..n], old, new)
+}
+
+// Room for any log, and a byte more.
+fn redo_room(
+    asked: Asked,
+    from: Dsp,
+    start: Dsp,
+    ram: &[u8],
+    own: &mut [u8],
+    old: &[u8],
+    new: &[u8],
+) -> Dsp {
+    let mut pcm = [0; 128001];
+    let mut sheet = [0; 1152001];
+    let mut readings = [0; 20001];
+    redo_in(
+        asked,
+        from,
+        start,
+        ram,
+        own,
+        old,
+        new,
+        &mut pcm,
+        &mut sheet,
+        &mut readings,
+    )
+}
+
+// Behind a reference an array's length is its type's, and no check has to count a million bytes.
+fn redo_in(
+    asked: Asked,
+    from: Dsp,
+    start: Dsp,
+    ram: &[u8],
+    own: &mut [u8],
+    old: &[u8],
+    new: &[u8],
+    pcm: &mut [u8; 128001],
+    sheet: &mut [u8; 1152001],
+    readings: &mut [u8; 20001],
+) -> Dsp {
+    redo_on(asked, from, start, ram, own, old, new, pcm, sheet, readings)
+}
+
+fn redo_on(
+    asked: Asked,
+    from: Dsp,
+    start: Dsp,
+    ram: &[u8],
+    own: &mut [u8],
+    old: &[u8],
+    new: &[u8],
+    pcm: &mut [u8],
+    sheet: &mut [u8],
+    readings: &mut [u8],
+) -> Dsp {
+    let r = run_cut(false, from, own, old, pcm, sheet, readings);
+    let end = r.dsp;
+    reworked(asked, start, end, ram, old, new, sheet, pcm, readings)
+}
+
+// A byte less of some, a byte more, or as many.
+fn resized(n: usize, lent: u8, short: u8) -> usize
+    requires { ⌜ (n < 0x10000000000) × (short < 255) ⌝ }
+{
+    if lent == short {
+        if n == 0 { 0 } else { n - 1 }
+    } else if lent == short + 1 {
+        n + 1
+    } else {
+        n
+    }
+}
+
+// What the new log needs, but for a byte of one slice, and the record that comes back.
+fn reworked(
+    asked: Asked,
+    start: Dsp,
+    end: Dsp,
+    ram: &[u8],
+    old: &[u8],
+    new: &[u8],
+    sheet: &mut [u8],
+    pcm: &mut [u8],
+    readings: &mut [u8],
+) -> Dsp {
+    let m = measure(new);
+    let ticks = m.ticks as usize;
+    let p = least(resized(ticks * 4, asked.lent, SHORT_PCM), pcm.len());
+    let s = least(resized(ticks * 36, asked.lent, SHORT_SHEET), sheet.len());
+    let q = least(
+        resized(m.readings as usize, asked.lent, SHORT_READINGS),
+        readings.len(),
+    );
+    rework_on(
+        asked.named,
+        start,
+        spoiled(end, asked.unfit / 2 % 2 == 1),
+        ram,
+        old,
+        new,
+        &mut sheet[..s],
+        &mut pcm[..p],
+        &mut readings[..q],
+    )
+}
+
+fn held(sheet: &[u8], pcm: &[u8], readings: &[u8]) -> u64 {
+    with_bytes(with_bytes(with_bytes(EMPTY, sheet), pcm), readings)
+}
+
+fn rework_on(
+    named: u8,
+    start: Dsp,
+    end: Dsp,
+    ram: &[u8],
+    old: &[u8],
+    new: &[u8],
+    sheet: &mut [u8],
+    pcm: &mut [u8],
+    readings: &mut [u8],
+) -> Dsp {
+    let before = held(sheet, pcm, readings);
+    let w = rework(named, start, end, ram, old, new, sheet, pcm, readings);
+    let d = w.dsp;
+    if w.refusal == 0 {
+        tell_reworked(w, ram, new, sheet, pcm, readings);
+        return d;
+    }
+    lines::refused(w.refusal);
+    if (w.members != 0) | (w.count != 0) | (before != held(sheet, pcm, readings)) {
+        lines::say(b"DIFFERS\n");
+    }
+    d
+}
+
+fn tell_reworked(w: Reworked, ram: &[u8], new: &[u8], sheet: &[u8], pcm: &[u8], readings: &[u8]) {
+    lines::say(b"VOICES ");
+    lines::hex(w.members);
+    lines::numbered(b" ", w.count as u64);
+    let m = measure(new);
+    let d = w.dsp;
+    let r = Ran {
+        refusal: 0,
+        dsp: d,
+        ticks: m.ticks,
+        readings: m.readings,
+    };
+    tell(r, new, ram, pcm, sheet, readings);
+}

@@ -1,0 +1,23 @@
+-- Each part that is lent has the bytes that were asked for.
+use borrow.Author.Needs.{needs}
+use mathlib.Core.Path.{sym}
+use lib.Seq.{length-take-le}
+use Rattle.report.proofs.runs.tell.Statement.{statement}
+use Rattle.report.proofs.runs.tell.Tie as tie
+
+pub tell-spec : {M : Type 1} → statement M
+tell-spec =
+    tie.close
+    (tie.spec
+    (λ c. search needs)
+    (λ c. search needs)
+    (λ c κs. search needs)
+    (λ c. search needs)
+    (λ c κs. search needs)
+    (λ c. search needs)
+    (λ c κs. search needs)
+    (λ c. sym (length-take-le _ _ (search needs)))
+    (λ c. sym (length-take-le _ _ (search needs)))
+    (λ c. sym (length-take-le _ _ (search needs)))
+    (λ c κs. search needs)
+    (λ c. search needs))

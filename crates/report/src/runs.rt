@@ -1,0 +1,182 @@
+// A log run whole, with slices exactly as long as it needs, and what that gives.
+ghost use Prim.Native.Nat.{_≤_};
+ghost use Rattle.io.specs.Counts.{Counts};
+use crate::digest::EMPTY;
+use crate::digest::with_bytes;
+use crate::left::Left;
+use crate::lines;
+use dsp::Dsp;
+use log::Next;
+use log::Record;
+use log::measure;
+use log::read;
+use sitting::Ran;
+use sitting::run;
+use sitting::run_new;
+
+pub fn least(a: usize, b: usize) -> usize
+    ensures { λ r. ⌜ (r ≤ a) × (r ≤ b) ⌝ }
+{
+    if a < b { a } else { b }
+}
+
+// What a run left, and its refusal or 0.
+pub struct Whole {
+    pub refusal: u8,
+    pub dsp: Dsp,
+    pub left: Left,
+}
+
+// From `new` by `run_new`, or from a record by `run`; told or not. Room for any log: 32,000 ticks with 4 bytes of PCM and 36 of
+// sheet each, 20,000 readings with 3 bytes of the log each.
+pub fn run_whole(of_new: bool, told: bool, start: Dsp, log: &[u8], ram: &mut [u8]) -> Whole {
+    let mut pcm = [0; 128000];
+    let mut sheet = [0; 1152000];
+    let mut readings = [0; 20000];
+    run_in(
+        of_new,
+        told,
+        start,
+        log,
+        ram,
+        &mut pcm,
+        &mut sheet,
+        &mut readings,
+    )
+}
+
+// Behind a reference an array's length is its type's, and no check has to count a million bytes.
+fn run_in(
+    of_new: bool,
+    told: bool,
+    start: Dsp,
+    log: &[u8],
+    ram: &mut [u8],
+    pcm: &mut [u8; 128000],
+    sheet: &mut [u8; 1152000],
+    readings: &mut [u8; 20000],
+) -> Whole {
+    run_told(of_new, told, start, log, ram, pcm, sheet, readings)
+}
+
+fn run_told(
+    of_new: bool,
+    told: bool,
+    start: Dsp,
+    log: &[u8],
+    ram: &mut [u8],
+    pcm: &mut [u8],
+    sheet: &mut [u8],
+    readings: &mut [u8],
+) -> Whole {
+    let r = run_cut(of_new, start, ram, log, pcm, sheet, readings);
+    let d = r.dsp;
+    if told {
+        return Whole {
+            refusal: r.refusal,
+            dsp: d,
+            left: tell(r, log, ram, pcm, sheet, readings),
+        };
+    }
+    Whole {
+        refusal: r.refusal,
+        dsp: d,
+        left: Left::by(d, ram, EMPTY, EMPTY),
+    }
+}
+
+// Lends what the log needs; were there less, the run would refuse by 10.
+pub fn run_cut(
+    of_new: bool,
+    start: Dsp,
+    ram: &mut [u8],
+    log: &[u8],
+    pcm: &mut [u8],
+    sheet: &mut [u8],
+    readings: &mut [u8],
+) -> Ran {
+    let m = measure(log);
+    let ticks = m.ticks as usize;
+    let p = least(ticks * 4, pcm.len());
+    let s = least(ticks * 36, sheet.len());
+    let q = least(m.readings as usize, readings.len());
+    run_on(
+        of_new,
+        start,
+        ram,
+        log,
+        &mut pcm[..p],
+        &mut sheet[..s],
+        &mut readings[..q],
+    )
+}
+
+fn run_on(
+    of_new: bool,
+    start: Dsp,
+    ram: &mut [u8],
+    log: &[u8],
+    pcm: &mut [u8],
+    sheet: &mut [u8],
+    readings: &mut [u8],
+) -> Ran {
+    if of_new {
+        return run_new(ram, log, pcm, sheet, readings);
+    }
+    run(start, ram, log, pcm, sheet, readings)
+}
+
+// Of what was lent, what a run with such an answer was lent and has filled.
+pub fn tell(r: Ran, log: &[u8], ram: &[u8], pcm: &[u8], sheet: &[u8], readings: &[u8]) -> Left {
+    let ticks = r.ticks as usize;
+    let p = least(ticks * 4, pcm.len());
+    let s = least(ticks * 36, sheet.len());
+    let q = least(r.readings as usize, readings.len());
+    tell_cut(r, log, ram, &pcm[..p], &sheet[..s], &readings[..q])
+}
+
+fn tell_cut(r: Ran, log: &[u8], ram: &[u8], pcm: &[u8], sheet: &[u8], readings: &[u8]) -> Left {
+    let d = r.dsp;
+    let left = Left::by(d, ram, with_bytes(EMPTY, pcm), with_bytes(EMPTY, readings));
+    if r.refusal != 0 {
+        lines::refused(r.refusal);
+        return left;
+    }
+    let mut registers = [0u8; 20000];
+    let n = registers_read(log, &mut registers);
+    tell_readings(&registers[..n], readings);
+    lines::end(r.ticks as u64, r.readings as u64);
+    lines::registers(d);
+    lines::digest(b"RAM ", left.ram);
+    lines::digest(b"PCM ", left.pcm);
+    lines::digest(b"SHEET ", with_bytes(EMPTY, sheet));
+    left
+}
+
+// The registers of a log's readings, in their order, as many as there is room for.
+pub fn registers_read(log: &[u8], to: &mut [u8]) -> usize
+    ensures { λ r. ⌜ Counts r (now (to .exit)) ⌝ }
+{
+    let mut put: usize = 0;
+    let mut at: usize = 0;
+    while put < to.len() {
+        let Next::On { found, at: behind } = read(log, at) else {
+            return put;
+        };
+        if let Record::Reading { register } = found {
+            to[put] = register;
+            put += 1;
+        }
+        at = behind;
+    }
+    put
+}
+
+fn tell_readings(registers: &[u8], readings: &[u8]) {
+    let n = least(registers.len(), readings.len());
+    let mut i: usize = 0;
+    while i < n {
+        lines::reading(i as u64 + 1, registers[i], readings[i]);
+        i += 1;
+    }
+}
