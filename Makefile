@@ -18,8 +18,11 @@ remark:
 	mv target/remark/log.bin target/remark/old.bin
 	tools/lesson/assemble lessons/final-voice3.txt target/remark
 	printf '\010' >target/remark/named.bin
-	@tools/runner || echo "It is not asked: target/bin/remark is made for x86-64 alone."
-	@if tools/runner; then cd target/remark && ../../tools/runner ../bin/remark <log.bin; fi
+	@if tools/runner; then \
+	    cd target/remark && ../../tools/runner ../bin/remark <log.bin; \
+	else \
+	    echo "It is not asked: target/bin/remark is made for x86-64 alone."; \
+	fi
 c:
 	tools/c/run
 test:

@@ -19,11 +19,15 @@ const IMAGES: u8 = 10;
 
 const HEAD: usize = 4;
 
-// The record that a run gave back, or that the file stops inside the log that was to be run.
+// The record that a run gave back, and how long its log was; or that the file stops inside the log.
 struct Back {
     stops: bool,
+    size: usize,
     dsp: Dsp,
 }
+
+// Of a log that has its end record alone.
+const END_SIZE: usize = 2;
 
 pub fn all(fd: i32) {
     let mut number: u64 = 1;
@@ -71,10 +75,11 @@ fn with_preludes(fd: i32, asked: Asked) -> bool
     }
     let from = p.dsp;
     let start = spoiled(q.dsp, asked.unfit % 2 == 1);
-    with_old(fd, asked, from, start)
+    let of_new = (asked.unfit == 0) & (p.size == END_SIZE) & (q.size == END_SIZE);
+    with_old(fd, asked, of_new, from, start)
 }
 
-fn with_old(fd: i32, asked: Asked, from: Dsp, start: Dsp) -> bool
+fn with_old(fd: i32, asked: Asked, of_new: bool, from: Dsp, start: Dsp) -> bool
     requires { ⌜ asked .ram < 10 ⌝ }
 {
     let mut log = io::large_buffer();
@@ -83,10 +88,10 @@ fn with_old(fd: i32, asked: Asked, from: Dsp, start: Dsp) -> bool
         return stops();
     }
     let n = found.size;
-    with_new(fd, asked, from, start, &log[..n])
+    with_new(fd, asked, of_new, from, start, &log[..n])
 }
 
-fn with_new(fd: i32, asked: Asked, from: Dsp, start: Dsp, old: &[u8]) -> bool
+fn with_new(fd: i32, asked: Asked, of_new: bool, from: Dsp, start: Dsp, old: &[u8]) -> bool
     requires { ⌜ asked .ram < 10 ⌝ }
 {
     let mut log = io::large_buffer();
@@ -95,7 +100,11 @@ fn with_new(fd: i32, asked: Asked, from: Dsp, start: Dsp, old: &[u8]) -> bool
         return stops();
     }
     let n = found.size;
-    with_tail(fd, asked.ram, redo(asked, from, start, old, &log[..n]))
+    with_tail(
+        fd,
+        asked.ram,
+        redo(asked, of_new, from, start, old, &log[..n]),
+    )
 }
 
 // From the record that the rework gave back.
@@ -119,6 +128,7 @@ fn run_next(fd: i32, ram: u8, of_new: bool, told: bool, start: Dsp) -> Back
     if found.failed {
         return Back {
             stops: true,
+            size: 0,
             dsp: start,
         };
     }
@@ -126,6 +136,7 @@ fn run_next(fd: i32, ram: u8, of_new: bool, told: bool, start: Dsp) -> Back
     let back = run_log(ram, of_new, told, start, &log[..n]);
     Back {
         stops: false,
+        size: n,
         dsp: back,
     }
 }

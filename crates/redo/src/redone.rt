@@ -5,12 +5,14 @@ use log::measure;
 use report::cases::image;
 use report::digest::EMPTY;
 use report::digest::with_bytes;
+use report::digest::with_registers;
 use report::lines;
 use report::runs::least;
 use report::runs::run_cut;
 use report::runs::tell;
 use rework::Reworked;
 use rework::rework;
+use rework::rework_new;
 use sitting::Ran;
 
 // The number of the RAM image, the mask of the named voices; which slice is lent a byte short or a byte long; which records are
@@ -37,19 +39,30 @@ pub fn spoiled(dsp: Dsp, unfit: bool) -> Dsp {
     d
 }
 
-// The record that the rework gives back. The first run has a RAM of its own.
-pub fn redo(asked: Asked, from: Dsp, start: Dsp, old: &[u8], new: &[u8]) -> Dsp
+// The record that the rework gives back. The first run has a RAM of its own. `of_new`: both sittings start from `new`, so that
+// `rework_new` has to give the same.
+pub fn redo(asked: Asked, of_new: bool, from: Dsp, start: Dsp, old: &[u8], new: &[u8]) -> Dsp
     requires { ⌜ asked .ram < 10 ⌝ }
 {
     let mut ram = [0u8; 65537];
     let n = image(asked.ram, &mut ram);
     let mut own = ram;
-    redo_room(asked, from, start, &ram[..n], &mut own[..n], old, new)
+    redo_room(
+        asked,
+        of_new,
+        from,
+        start,
+        &ram[..n],
+        &mut own[..n],
+        old,
+        new,
+    )
 }
 
 // Room for any log, and a byte more.
 fn redo_room(
     asked: Asked,
+    of_new: bool,
     from: Dsp,
     start: Dsp,
     ram: &[u8],
@@ -62,6 +75,7 @@ fn redo_room(
     let mut readings = [0; 20001];
     redo_in(
         asked,
+        of_new,
         from,
         start,
         ram,
@@ -77,6 +91,7 @@ fn redo_room(
 // Behind a reference an array's length is its type's, and no check has to count a million bytes.
 fn redo_in(
     asked: Asked,
+    of_new: bool,
     from: Dsp,
     start: Dsp,
     ram: &[u8],
@@ -87,11 +102,24 @@ fn redo_in(
     sheet: &mut [u8; 1152001],
     readings: &mut [u8; 20001],
 ) -> Dsp {
-    redo_on(asked, from, start, ram, own, old, new, pcm, sheet, readings)
+    redo_on(
+        asked,
+        of_new,
+        from,
+        start,
+        ram,
+        own,
+        old,
+        new,
+        pcm,
+        sheet,
+        readings,
+    )
 }
 
 fn redo_on(
     asked: Asked,
+    of_new: bool,
     from: Dsp,
     start: Dsp,
     ram: &[u8],
@@ -104,7 +132,18 @@ fn redo_on(
 ) -> Dsp {
     let r = run_cut(false, from, own, old, pcm, sheet, readings);
     let end = r.dsp;
-    reworked(asked, start, end, ram, old, new, sheet, pcm, readings)
+    reworked(
+        asked,
+        of_new,
+        start,
+        end,
+        ram,
+        old,
+        new,
+        sheet,
+        pcm,
+        readings,
+    )
 }
 
 // A byte less of some, a byte more, or as many.
@@ -123,6 +162,7 @@ fn resized(n: usize, lent: u8, short: u8) -> usize
 // What the new log needs, but for a byte of one slice, and the record that comes back.
 fn reworked(
     asked: Asked,
+    of_new: bool,
     start: Dsp,
     end: Dsp,
     ram: &[u8],
@@ -142,6 +182,7 @@ fn reworked(
     );
     rework_on(
         asked.named,
+        of_new,
         start,
         spoiled(end, asked.unfit / 2 % 2 == 1),
         ram,
@@ -159,6 +200,7 @@ fn held(sheet: &[u8], pcm: &[u8], readings: &[u8]) -> u64 {
 
 fn rework_on(
     named: u8,
+    of_new: bool,
     start: Dsp,
     end: Dsp,
     ram: &[u8],
@@ -170,16 +212,48 @@ fn rework_on(
 ) -> Dsp {
     let before = held(sheet, pcm, readings);
     let w = rework(named, start, end, ram, old, new, sheet, pcm, readings);
-    let d = w.dsp;
     if w.refusal == 0 {
         tell_reworked(w, ram, new, sheet, pcm, readings);
-        return d;
+    } else {
+        lines::refused(w.refusal);
+        differs((w.members != 0) | (w.count != 0) | (before != held(sheet, pcm, readings)));
     }
-    lines::refused(w.refusal);
-    if (w.members != 0) | (w.count != 0) | (before != held(sheet, pcm, readings)) {
+    of_new_too(of_new, w, named, ram, old, new, sheet, pcm, readings)
+}
+
+fn differs(so: bool) {
+    if so {
         lines::say(b"DIFFERS\n");
     }
+}
+
+fn of_new_too(
+    of_new: bool,
+    w: Reworked,
+    named: u8,
+    ram: &[u8],
+    old: &[u8],
+    new: &[u8],
+    sheet: &mut [u8],
+    pcm: &mut [u8],
+    readings: &mut [u8],
+) -> Dsp {
+    let d = w.dsp;
+    if of_new {
+        let after = held(sheet, pcm, readings);
+        let v = rework_new(named, ram, old, new, sheet, pcm, readings);
+        differs(!same(w, v) | (after != held(sheet, pcm, readings)));
+    }
     d
+}
+
+fn same(w: Reworked, v: Reworked) -> bool {
+    let d = w.dsp;
+    let e = v.dsp;
+    (w.refusal == v.refusal)
+        & (w.members == v.members)
+        & (w.count == v.count)
+        & (with_registers(EMPTY, d) == with_registers(EMPTY, e))
 }
 
 fn tell_reworked(w: Reworked, ram: &[u8], new: &[u8], sheet: &[u8], pcm: &[u8], readings: &[u8]) {
