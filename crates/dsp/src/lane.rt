@@ -21,6 +21,7 @@ use crate::mix::Stereo;
 use crate::mix::bit;
 use crate::mix::scaled_output;
 use crate::play::Play;
+use crate::play::Shown;
 use crate::play::Source;
 use crate::voice::Voice;
 
@@ -144,6 +145,20 @@ impl Voice {
     }
 }
 
+impl Shown {
+    // No delay held it.
+    fn let_step(self) -> Held
+        ensures { λ r. ⌜ (r .play ≡ self .play) × (r .delay ≡ 0) × (r .envx ≡ self .envx) ⌝ }
+    {
+        let p = self.play;
+        Held {
+            play: p,
+            delay: 0,
+            envx: self.envx,
+        }
+    }
+}
+
 impl Brr {
     fn samples(self) -> [i16; 16]
         ensures { λ r. ⌜ r ≡ self .«sample_buffer» ⌝ }
@@ -246,12 +261,7 @@ impl Play {
                 ram,
                 samples,
             );
-            let p = t.play;
-            Held {
-                play: p,
-                delay: 0,
-                envx: t.envx,
-            }
+            t.let_step()
         } else {
             Held {
                 play: self,

@@ -86,60 +86,22 @@ impl Glob {
         ensures { λ r. ⌜ r ≡ globWrite idx value self ⌝ }
     {
         match idx {
-            0x4C => {
-                self.new_kon = value;
-                self
-            }
-            0x0C => {
-                self.master_vol_left = numbers::signed8(value);
-                self
-            }
-            0x1C => {
-                self.master_vol_right = numbers::signed8(value);
-                self
-            }
-            0x5D => {
-                self.dir_base = value;
-                self
-            }
-            0x3D => {
-                self.non = value;
-                self
-            }
-            0x2D => {
-                self.pmon = value / 2 * 2;
-                self
-            }
-            0x2C => {
-                self.echo_vol_left = numbers::signed8(value);
-                self
-            }
-            0x3C => {
-                self.echo_vol_right = numbers::signed8(value);
-                self
-            }
-            0x0D => {
-                self.efb = numbers::signed8(value);
-                self
-            }
-            0x4D => {
-                self.eon = value;
-                self
-            }
-            0x6D => {
-                self.esa = value;
-                self
-            }
-            0x7D => {
-                self.edl = value % 16;
-                self
-            }
-            0x6C => {
-                self.flg = value;
-                self
-            }
-            _ => self,
+            0x4C => self.new_kon = value,
+            0x0C => self.master_vol_left = numbers::signed8(value),
+            0x1C => self.master_vol_right = numbers::signed8(value),
+            0x5D => self.dir_base = value,
+            0x3D => self.non = value,
+            0x2D => self.pmon = value / 2 * 2,
+            0x2C => self.echo_vol_left = numbers::signed8(value),
+            0x3C => self.echo_vol_right = numbers::signed8(value),
+            0x0D => self.efb = numbers::signed8(value),
+            0x4D => self.eon = value,
+            0x6D => self.esa = value,
+            0x7D => self.edl = value % 16,
+            0x6C => self.flg = value,
+            _ => {}
         }
+        self
     }
 }
 

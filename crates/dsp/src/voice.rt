@@ -53,26 +53,11 @@ impl Voice {
         ensures { λ r. ⌜ r ≡ writeVoice off value self ⌝ }
     {
         match off {
-            0 => {
-                self.left_vol = numbers::signed8(value);
-                self
-            }
-            1 => {
-                self.right_vol = numbers::signed8(value);
-                self
-            }
-            2 => {
-                self.pitch = numbers::with_low(self.pitch, value);
-                self
-            }
-            3 => {
-                self.pitch = numbers::with_high(self.pitch, value % 64);
-                self
-            }
-            4 => {
-                self.srcn = value;
-                self
-            }
+            0 => self.left_vol = numbers::signed8(value),
+            1 => self.right_vol = numbers::signed8(value),
+            2 => self.pitch = numbers::with_low(self.pitch, value),
+            3 => self.pitch = numbers::with_high(self.pitch, value % 64),
+            4 => self.srcn = value,
             5 => {
                 let on = value >= 0x80;
                 let decay = value / 16 % 8;
@@ -80,21 +65,17 @@ impl Voice {
                 self.adsr.adsr_mode = on;
                 self.adsr.decay_rate = decay;
                 self.adsr.attack_rate = attack;
-                self
             }
             6 => {
                 let level = value / 32;
                 let rate = value % 32;
                 self.adsr.sustain_level = level;
                 self.adsr.sustain_rate = rate;
-                self
             }
-            7 => {
-                self.adsr.gain_param = value;
-                self
-            }
-            _ => self,
+            7 => self.adsr.gain_param = value,
+            _ => {}
         }
+        self
     }
 
     // RESET: a hard cut and no release.
