@@ -1,7 +1,7 @@
 -- A rework tells of eight voices at most.
 use mathlib.Core.List.{List}
 use mathlib.Core.Path.{_≡_, sym, subst}
-use Prim.Native.Nat.{ℕ, zero, suc, _+_, _≤_}
+use Prim.Native.Nat.{ℕ, zero, suc, _≤_}
 use native.Mathlib.Nat.{le-refl}
 use native.Mathlib.Omega.{arith}
 use Rattle.numbers.specs.Choice.{_=?_}

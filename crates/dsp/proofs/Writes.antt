@@ -1,5 +1,5 @@
 -- Laws of register writes, by the kind of register.
-use mathlib.Core.Bool.{Bool, true, false, _||_}
+use mathlib.Core.Bool.{Bool, true, false, _&&_, _||_}
 use mathlib.Core.List.{List, [], _∷_}
 use mathlib.Core.Path.{_≡_, refl}
 use Prim.Native.Nat.{ℕ, _/_, _%_, _≤_, _<_}
@@ -9,11 +9,11 @@ use lib.IntN.{ℤ, pos}
 use lib.ListN.{getD, set}
 use lib.Dec.{eqb}
 use borrow.Author.Tests.{lt-ltb, le-ltb, le-leb, lt-leb, eq-eqb, ne-eqb}
-use Rattle.numbers.specs.Choice.{_=?_}
+use Rattle.numbers.specs.Choice.{if_then_else_, _≤?_, _=?_}
 use Rattle.numbers.specs.Signed.{cutZ}
 use Rattle.numbers.proofs.Choice.{chosen}
-use Rattle.dsp.specs.Machine.{noVoice, globOf, together}
-use Rattle.dsp.specs.Registers.{at, writeVoice, globWrite, endxWrite, writeParts, writeAt, putGlobal}
+use Rattle.dsp.specs.Machine.{noVoice, globOf, together, withGlob}
+use Rattle.dsp.specs.Registers.{at, writeVoice, globWrite, endxWrite, silenceAll, writeParts, writeAt}
 use Rattle.dsp.specs.declared.voice.Voice.{Voice}
 use Rattle.dsp.specs.declared.registers.Dsp.{Dsp}
 use Rattle.dsp.specs.declared.registers.Glob.{Glob}
@@ -52,7 +52,7 @@ endx-as-any i x = chosen (λ (y : ℕ). y ≡ x) (i =? 0x7C) refl refl
 -- ---- the three kinds of register
 
 -- d with the byte stored, and with these voices and taps
-abbrev stored : ℕ → ℕ → List Voice → List ℤ → Dsp → Dsp
+abbrev pub stored : ℕ → ℕ → List Voice → List ℤ → Dsp → Dsp
 stored i x voices taps d =
     together
     (record {
@@ -81,8 +81,25 @@ tap-write i x d h =
     let v : 8 ≤ i % 16 = omega arith in
     rw (le-ltb _ _ v, eq-eqb _ _ h, endx-as-any) (simp e)
 
-pub global-write : (i x : ℕ) (d : Dsp) → 8 ≤ i % 16 → (i % 16 ≡ 15 → ⊥)
-    → writeAt i x d ≡ putGlobal i x (stored i x (d .voices) (d .«fir_coeff») d)
+-- RESET, on a record whose other numbers are written
+abbrev pub reset : Dsp → Dsp
+reset d =
+    together
+    (record {
+      registers = set (d .registers) 0x7C 0;
+      voices = silenceAll (d .voices);
+      delays = d .«kon_delay»;
+      taps = d .«fir_coeff»;
+      left = d .«fir_history_l»;
+      right = d .«fir_history_r»;
+      glob = globOf d;
+    })
+
+abbrev pub globWritten : ℕ → ℕ → Dsp → Dsp
+globWritten i x d = withGlob d (globWrite i x (globOf d))
+
+global-write : (i x : ℕ) (d : Dsp) → 8 ≤ i % 16 → (i % 16 ≡ 15 → ⊥)
+    → let e = globWritten i x (stored i x (d .voices) (d .«fir_coeff») d) in writeAt i x d ≡ (if (i =? 0x6C) && (0x80 ≤? x) then reset e else e)
 unfolding writeAt writeParts
 global-write i x d v f =
     elim (ℕ-discrete i 0x6C) [
@@ -93,3 +110,11 @@ global-write i x d v f =
           ]
       | no e ↦ rw (le-ltb _ _ v, ne-eqb _ _ f, ne-eqb _ _ e, endx-as-any)
     ]
+
+pub plain-write : (i x : ℕ) (d : Dsp) → 8 ≤ i % 16 → (i % 16 ≡ 15 → ⊥) → (i =? 0x6C) && (0x80 ≤? x) ≡ false
+    → writeAt i x d ≡ globWritten i x (stored i x (d .voices) (d .«fir_coeff») d)
+plain-write i x d v f t = rw t at (global-write i x d v f)
+
+pub reset-write : (i x : ℕ) (d : Dsp) → 8 ≤ i % 16 → (i % 16 ≡ 15 → ⊥) → (i =? 0x6C) && (0x80 ≤? x) ≡ true
+    → writeAt i x d ≡ reset (globWritten i x (stored i x (d .voices) (d .«fir_coeff») d))
+reset-write i x d v f t = rw t at (global-write i x d v f)

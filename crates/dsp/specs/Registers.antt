@@ -1,5 +1,5 @@
 -- Register writes: what each register changes. A rule for each field says when it takes the value.
-use mathlib.Core.Bool.{Bool, false, _&&_}
+use mathlib.Core.Bool.{Bool, false}
 use mathlib.Core.List.{List}
 use Prim.Native.Nat.{ℕ, zero, suc, _*_, _/_, _%_}
 use lib.IntN.{ℤ, pos}
@@ -7,7 +7,7 @@ use lib.ListN.{getD, set}
 use Rattle.numbers.specs.Choice.{if_then_else_, _≤?_, _<?_, _=?_}
 use Rattle.numbers.specs.Signed.{cutZ}
 use Rattle.numbers.specs.Unsigned.{withLow, withHigh}
-use Rattle.dsp.specs.Machine.{noVoice, globOf, Parts, apart, together, withGlob}
+use Rattle.dsp.specs.Machine.{noVoice, Parts, apart, together}
 use Rattle.dsp.specs.Fit.{fit}
 use Rattle.dsp.specs.declared.adsr.EnvelopePhase.the-variants.{Off}
 use Rattle.dsp.specs.declared.voice.Voice.{Voice}
@@ -152,27 +152,6 @@ writeParts i x p =
 
 unfoldable pub writeAt : ℕ → ℕ → Dsp → Dsp
 writeAt i x d = together (writeParts i x (apart d))
-
--- ---- the code's own steps
-
-abbrev pub resetDsp : Dsp → Dsp
-resetDsp d =
-    together
-    (record {
-      registers = set (d .registers) 0x7C 0;
-      voices = silenceAll (d .voices);
-      delays = d .«kon_delay»;
-      taps = d .«fir_coeff»;
-      left = d .«fir_history_l»;
-      right = d .«fir_history_r»;
-      glob = globOf d;
-    })
-
--- a global register, whose byte is stored already
-abbrev pub putGlobal : ℕ → ℕ → Dsp → Dsp
-putGlobal i x d =
-    if (i =? 0x6C) && (0x80 ≤? x) then resetDsp (withGlob d (globWrite i x (globOf d))) else
-    withGlob d (globWrite i x (globOf d))
 
 -- ---- the public write
 

@@ -4,7 +4,7 @@ ghost use Prim.Native.Nat.{_<_, _%_};
 ghost use lib.ListN.{getD};
 ghost use Rattle.dsp.specs.Machine.{newDsp, globOf, withGlob};
 ghost use Rattle.dsp.specs.Fit.{fitGlob, fit};
-ghost use Rattle.dsp.specs.Registers.{globWrite, silenceAll, resetDsp, putGlobal, writeAt, Written, writeOf};
+ghost use Rattle.dsp.specs.Registers.{globWrite, silenceAll, writeAt, Written, writeOf};
 use crate::noise::Noise;
 use crate::voice::Voice;
 
@@ -238,30 +238,6 @@ impl Dsp {
         self
     }
 
-    // RESET silences every voice at once and clears ENDX; delays and the pending KON stay.
-    fn reset(mut self) -> Self
-        ensures { λ r. ⌜ r ≡ resetDsp self ⌝ }
-    {
-        self.registers[0x7C] = 0;
-        let voices = self.voices;
-        let cut = silence_all(voices);
-        self.voices = cut;
-        self
-    }
-
-    fn put_global(self, idx: u8, value: u8) -> Self
-        ensures { λ r. ⌜ r ≡ putGlobal idx value self ⌝ }
-    {
-        let g = self.glob();
-        let h = g.write(idx, value);
-        let d = self.with_glob(h);
-        if (idx == 0x6C) & (value >= 0x80) {
-            d.reset()
-        } else {
-            d
-        }
-    }
-
     // One register, by its number below $80, on a record that is known to be fit.
     pub(crate) fn put(mut self, idx: u8, value: u8) -> Self
         requires { ⌜ idx < 128 ⌝ }
@@ -280,7 +256,17 @@ impl Dsp {
             self.fir_coeff[v] = numbers::signed8(value);
             self
         } else {
-            self.put_global(idx, value)
+            let g = self.glob();
+            let h = g.write(idx, value);
+            let mut d = self.with_glob(h);
+            // RESET silences every voice at once and clears ENDX; delays and the pending KON stay.
+            if (idx == 0x6C) & (value >= 0x80) {
+                d.registers[0x7C] = 0;
+                let voices = d.voices;
+                let cut = silence_all(voices);
+                d.voices = cut;
+            }
+            d
         }
     }
 

@@ -1,11 +1,12 @@
 -- Places of a log: a record ends past where it began; and the bound on the number of records is never met.
+use mathlib.Core.Bool.{true, false}
 use mathlib.Core.List.{List, [], _∷_}
 use mathlib.Core.Path.{_≡_, refl, sym, ap, subst, _∙_}
 use Prim.Native.Nat.{ℕ, zero, suc, _+_, _-_, _*_, _≤_, _<_}
 use native.Mathlib.Omega.{arith}
 use native.Mathlib.Numerals.{add-one}
 use lib.ListN.{length, getD}
-use borrow.Author.Tests.{ltb-false, leb-false, le-leb}
+use borrow.Author.Tests.{ltb-false, lt-ltb, le-ltb, le-leb, eq-eqb, ne-eqb}
 use Rattle.numbers.specs.Choice.{_≤?_, _<?_, _=?_}
 use Rattle.numbers.proofs.Choice.{tested}
 use Rattle.log.specs.declared.Record.{Record}
@@ -14,39 +15,57 @@ use Rattle.log.specs.declared.Next.{Next}
 use Rattle.log.specs.declared.Next.the-variants.{On, Off}
 use Rattle.log.specs.Log.{byteOf, writeAt, ticksAt, readingAt, byMark, readAt, Moves, Decoded, before, decodeFrom, recordsFrom}
 
+-- ---- as many bytes as are left from a place on
+
+abbrev Left : ℕ → ℕ → ℕ → Type 0
+Left size at left = (left ≡ size - at) × (at < size)
+
+pub cut-short : (n size at left : ℕ) → Left size at left → left < n → (size <? at + n) ≡ true
+cut-short n size at left l h = lt-ltb size (at + n) (omega (arith, l .0, l .1, h))
+
+pub whole : (n size at left : ℕ) → Left size at left → n ≤ left → (size <? at + n) ≡ false
+whole n size at left l h = le-ltb size (at + n) (omega (arith, l .0, l .1, h))
+
+pub last : (n size at left : ℕ) → Left size at left → left ≡ n → (size =? at + n) ≡ true
+last n size at left l h = eq-eqb size (at + n) (omega (arith, l .0, l .1, h))
+
+pub followed : (n size at left : ℕ) → Left size at left → (left ≡ n → ⊥) → (size =? at + n) ≡ false
+followed n size at left l h = ne-eqb size (at + n) (λ e. h (omega (arith, l .0, l .1, e)))
+
+-- ---- a record ends past where it began
+
 module _ (log : List ℕ) (at : ℕ) where
   abbrev Ok : Next → Type 0
   Ok n = Moves at (length log) n
 
-  write-moves : (left : ℕ) → left ≡ length log - at → at ≤ length log → Ok (writeAt log at left)
+  write-moves : Ok (writeAt log at)
   unfolding writeAt
-  write-moves left e h =
-      tested Ok (left <? 4) (λ _. tt) (λ l. tested Ok (0x7F <? byteOf log (at + 2)) (λ _. tt) (λ k.
-      let a = ltb-false left 4 l in let b = ltb-false 0x7F (byteOf log (at + 2)) k in (omega arith, omega (arith, a, e, h), omega (arith, b))))
+  write-moves =
+      tested Ok (length log <? at + 4) (λ _. tt) (λ l. tested Ok (0x7F <? byteOf log (at + 2)) (λ _. tt) (λ k.
+      let a = ltb-false (length log) (at + 4) l in let b = ltb-false 0x7F (byteOf log (at + 2)) k in (omega arith, omega (arith, a), omega (arith, b))))
 
-  ticks-moves : (left : ℕ) → left ≡ length log - at → at ≤ length log → Ok (ticksAt log at left)
+  ticks-moves : Ok (ticksAt log at)
   unfolding ticksAt
-  ticks-moves left e h =
-      tested Ok (left <? 4) (λ _. tt) (λ l. tested Ok (byteOf log (at + 2) + 0x100 * byteOf log (at + 3) =? 0) (λ _. tt) (λ k.
-      let a = ltb-false left 4 l in (omega arith, omega (arith, a, e, h), tt)))
+  ticks-moves =
+      tested Ok (length log <? at + 4) (λ _. tt) (λ l. tested Ok (byteOf log (at + 2) + 0x100 * byteOf log (at + 3) =? 0) (λ _. tt) (λ k.
+      let a = ltb-false (length log) (at + 4) l in (omega arith, omega (arith, a), tt)))
 
-  reading-moves : (left : ℕ) → left ≡ length log - at → at ≤ length log → Ok (readingAt log at left)
+  reading-moves : Ok (readingAt log at)
   unfolding readingAt
-  reading-moves left e h =
-      tested Ok (left <? 3) (λ _. tt) (λ l. tested Ok (0x7F <? byteOf log (at + 2)) (λ _. tt) (λ k.
-      let a = ltb-false left 3 l in let b = ltb-false 0x7F (byteOf log (at + 2)) k in (omega arith, omega (arith, a, e, h), omega (arith, b))))
+  reading-moves =
+      tested Ok (length log <? at + 3) (λ _. tt) (λ l. tested Ok (0x7F <? byteOf log (at + 2)) (λ _. tt) (λ k.
+      let a = ltb-false (length log) (at + 3) l in let b = ltb-false 0x7F (byteOf log (at + 2)) k in (omega arith, omega (arith, a), omega (arith, b))))
 
-  mark-moves : (left mark : ℕ) → left ≡ length log - at → at ≤ length log → Ok (byMark log at left mark)
+  mark-moves : (mark : ℕ) → Ok (byMark log at mark)
   unfolding byMark
-  mark-moves left mark e h =
-      tested Ok (mark =? 0x5257) (λ _. write-moves left e h) (λ _. tested Ok (mark =? 0x544B) (λ _. ticks-moves left e h) (λ _.
-      tested Ok (mark =? 0x5141) (λ _. reading-moves left e h) (λ _. tested Ok (mark =? 0x4E44) (λ _. tested Ok (left =? 2) (λ _. tt) (λ _. tt)) (λ _. tt))))
+  mark-moves mark =
+      tested Ok (mark =? 0x5257) (λ _. write-moves) (λ _. tested Ok (mark =? 0x544B) (λ _. ticks-moves) (λ _.
+      tested Ok (mark =? 0x5141) (λ _. reading-moves) (λ _. tested Ok (mark =? 0x4E44) (λ _. tested Ok (length log =? at + 2) (λ _. tt) (λ _. tt)) (λ _. tt))))
 
   pub moves : Ok (readAt log at)
   unfolding readAt
   moves =
-      tested Ok (length log ≤? at) (λ _. tt) (λ l. tested Ok (length log - at <? 2) (λ _. tt) (λ _.
-      let a = leb-false (length log) at l in mark-moves (length log - at) (byteOf log (at + 1) + 0x100 * byteOf log at) refl (omega (arith, a))))
+      tested Ok (length log ≤? at) (λ _. tt) (λ _. tested Ok (length log <? at + 2) (λ _. tt) (λ _. mark-moves (byteOf log (at + 1) + 0x100 * byteOf log at)))
 
 -- a written value is a byte of the log
 abbrev pub ByteValue : Next → Type 0
@@ -58,16 +77,16 @@ ByteValue (Off k) = Unit {0}
 pub byte-value : (log : List ℕ) (at : ℕ) → ((i : ℕ) → getD log i 0 < 256) → ByteValue (readAt log at)
 unfolding readAt byMark writeAt ticksAt readingAt
 byte-value log at h =
-    let left = length log - at in
+    let size = length log in
     let mark = byteOf log (at + 1) + 0x100 * byteOf log at in
-    tested ByteValue (length log ≤? at) (λ _. tt) (λ _. tested ByteValue (left <? 2) (λ _. tt) (λ _.
+    tested ByteValue (size ≤? at) (λ _. tt) (λ _. tested ByteValue (size <? at + 2) (λ _. tt) (λ _.
     tested ByteValue (mark =? 0x5257)
-    (λ _. tested ByteValue (left <? 4) (λ _. tt) (λ _. tested ByteValue (0x7F <? byteOf log (at + 2)) (λ _. tt) (λ _. h (at + 3))))
+    (λ _. tested ByteValue (size <? at + 4) (λ _. tt) (λ _. tested ByteValue (0x7F <? byteOf log (at + 2)) (λ _. tt) (λ _. h (at + 3))))
     (λ _. tested ByteValue (mark =? 0x544B)
-    (λ _. tested ByteValue (left <? 4) (λ _. tt) (λ _. tested ByteValue (byteOf log (at + 2) + 0x100 * byteOf log (at + 3) =? 0) (λ _. tt) (λ _. tt)))
+    (λ _. tested ByteValue (size <? at + 4) (λ _. tt) (λ _. tested ByteValue (byteOf log (at + 2) + 0x100 * byteOf log (at + 3) =? 0) (λ _. tt) (λ _. tt)))
     (λ _. tested ByteValue (mark =? 0x5141)
-    (λ _. tested ByteValue (left <? 3) (λ _. tt) (λ _. tested ByteValue (0x7F <? byteOf log (at + 2)) (λ _. tt) (λ _. tt)))
-    (λ _. tested ByteValue (mark =? 0x4E44) (λ _. tested ByteValue (left =? 2) (λ _. tt) (λ _. tt)) (λ _. tt))))))
+    (λ _. tested ByteValue (size <? at + 3) (λ _. tt) (λ _. tested ByteValue (0x7F <? byteOf log (at + 2)) (λ _. tt) (λ _. tt)))
+    (λ _. tested ByteValue (mark =? 0x4E44) (λ _. tested ByteValue (size =? at + 2) (λ _. tt) (λ _. tt)) (λ _. tt))))))
 
 -- past the end nothing stands
 past-end : (log : List ℕ) (at : ℕ) → length log ≤ at → readAt log at ≡ Off 8

@@ -1,5 +1,5 @@
 -- What stands at a place of a log, and the log's records (document 01, "Log, sheet, program").
-use Prim.Native.Nat.{ℕ, zero, suc, _+_, _-_, _*_, _≤_, _<_}
+use Prim.Native.Nat.{ℕ, zero, suc, _+_, _*_, _≤_, _<_}
 use mathlib.Core.List.{List, [], _∷_}
 use lib.ListN.{length, getD}
 use Rattle.numbers.specs.Choice.{if_then_else_, _≤?_, _<?_, _=?_}
@@ -13,35 +13,34 @@ abbrev pub byteOf : List ℕ → ℕ → ℕ
 byteOf log i = getD log i 0
 
 -- "RW (52 57), register, value": 5 if it is not whole, 6 if the register is above $7F
-unfoldable pub writeAt : List ℕ → ℕ → ℕ → Next
-writeAt log at left =
-    if left <? 4 then Off 5 else
+unfoldable pub writeAt : List ℕ → ℕ → Next
+writeAt log at =
+    if length log <? at + 4 then Off 5 else
     if 0x7F <? byteOf log (at + 2) then Off 6 else
     On (Write (byteOf log (at + 2)) (byteOf log (at + 3))) (at + 4)
 
 -- "TK (54 4B), count, 16 bits, low byte first": 7 if it is 0
-unfoldable pub ticksAt : List ℕ → ℕ → ℕ → Next
-ticksAt log at left =
-    if left <? 4 then Off 5 else
+unfoldable pub ticksAt : List ℕ → ℕ → Next
+ticksAt log at =
+    if length log <? at + 4 then Off 5 else
     if byteOf log (at + 2) + 0x100 * byteOf log (at + 3) =? 0 then Off 7 else
     On (Ticks (byteOf log (at + 2) + 0x100 * byteOf log (at + 3))) (at + 4)
 
 -- "QA (51 41), register: one reading"
-unfoldable pub readingAt : List ℕ → ℕ → ℕ → Next
-readingAt log at left =
-    if left <? 3 then Off 5 else
+unfoldable pub readingAt : List ℕ → ℕ → Next
+readingAt log at =
+    if length log <? at + 3 then Off 5 else
     if 0x7F <? byteOf log (at + 2) then Off 6 else
     On (Reading (byteOf log (at + 2))) (at + 3)
 
--- by the mark, its first byte as the high one, with so many bytes left from it on; "ND (4E 44): end", and 9 with
--- bytes behind it; any other mark is 4
-unfoldable pub byMark : List ℕ → ℕ → ℕ → ℕ → Next
+-- by the mark, its first byte as the high one; "ND (4E 44): end", and 9 with bytes behind it; any other mark is 4
+unfoldable pub byMark : List ℕ → ℕ → ℕ → Next
 unfolding writeAt ticksAt readingAt
-byMark log at left mark =
-    if mark =? 0x5257 then writeAt log at left else
-    if mark =? 0x544B then ticksAt log at left else
-    if mark =? 0x5141 then readingAt log at left else
-    if mark =? 0x4E44 then (if left =? 2 then Off 0 else Off 9) else
+byMark log at mark =
+    if mark =? 0x5257 then writeAt log at else
+    if mark =? 0x544B then ticksAt log at else
+    if mark =? 0x5141 then readingAt log at else
+    if mark =? 0x4E44 then (if length log =? at + 2 then Off 0 else Off 9) else
     Off 4
 
 -- at the log's end 8, at a lone byte 5
@@ -49,8 +48,8 @@ unfoldable pub readAt : List ℕ → ℕ → Next
 unfolding byMark
 readAt log at =
     if length log ≤? at then Off 8 else
-    if length log - at <? 2 then Off 5 else
-    byMark log at (length log - at) (byteOf log (at + 1) + 0x100 * byteOf log at)
+    if length log <? at + 2 then Off 5 else
+    byMark log at (byteOf log (at + 1) + 0x100 * byteOf log at)
 
 -- a register of a record is one of the 128
 abbrev pub Known : Record → Type 0

@@ -41,7 +41,7 @@ pub fn word(low: u8, high: u8) -> u16
 // `RW`, register, value.
 fn write_at(log: &[u8], at: usize, left: usize) -> Next
     requires { ⌜ (left ≡ length (now log) - at) × (at < length (now log)) ⌝ }
-    ensures { λ r. ⌜ (r ≡ writeAt (now (log .entry)) at left) × Moves at (length (now (log .entry))) r ⌝ }
+    ensures { λ r. ⌜ (r ≡ writeAt (now (log .entry)) at) × Moves at (length (now (log .entry))) r ⌝ }
 {
     if left < 4 {
         return Next::Off(5);
@@ -60,7 +60,7 @@ fn write_at(log: &[u8], at: usize, left: usize) -> Next
 // `TK`, count, 16 bits, low byte first.
 fn ticks_at(log: &[u8], at: usize, left: usize) -> Next
     requires { ⌜ (left ≡ length (now log) - at) × (at < length (now log)) ⌝ }
-    ensures { λ r. ⌜ (r ≡ ticksAt (now (log .entry)) at left) × Moves at (length (now (log .entry))) r ⌝ }
+    ensures { λ r. ⌜ (r ≡ ticksAt (now (log .entry)) at) × Moves at (length (now (log .entry))) r ⌝ }
 {
     if left < 4 {
         return Next::Off(5);
@@ -78,7 +78,7 @@ fn ticks_at(log: &[u8], at: usize, left: usize) -> Next
 // `QA`, register.
 fn reading_at(log: &[u8], at: usize, left: usize) -> Next
     requires { ⌜ (left ≡ length (now log) - at) × (at < length (now log)) ⌝ }
-    ensures { λ r. ⌜ (r ≡ readingAt (now (log .entry)) at left) × Moves at (length (now (log .entry))) r ⌝ }
+    ensures { λ r. ⌜ (r ≡ readingAt (now (log .entry)) at) × Moves at (length (now (log .entry))) r ⌝ }
 {
     if left < 3 {
         return Next::Off(5);
@@ -95,7 +95,7 @@ fn reading_at(log: &[u8], at: usize, left: usize) -> Next
 
 fn by_mark(log: &[u8], at: usize, left: usize, mark: u16) -> Next
     requires { ⌜ (left ≡ length (now log) - at) × (at < length (now log)) ⌝ }
-    ensures { λ r. ⌜ (r ≡ byMark (now (log .entry)) at left mark) × Moves at (length (now (log .entry))) r ⌝ }
+    ensures { λ r. ⌜ (r ≡ byMark (now (log .entry)) at mark) × Moves at (length (now (log .entry))) r ⌝ }
 {
     if mark == 0x5257 {
         return write_at(log, at, left);

@@ -1,8 +1,10 @@
 -- The marks in their order.
 use borrow.Author.Needs.{needs}
+use lib.ListN.{length}
 use borrow.Author.Tests.{eq-eqb, ne-eqb}
 use mathlib.Core.Path.{_∙_}
 use Rattle.log.specs.Log.{byMark}
+use Rattle.log.proofs.Places.{last, followed}
 use Rattle.log.proofs.by_mark.Statement.{statement}
 use Rattle.log.proofs.by_mark.Tie as tie
 
@@ -23,12 +25,12 @@ returns-3 c =
 returns-4 : tie.Need-returns-4
 unfolding byMark
 returns-4 c =
-    (simp (ne-eqb _ _ (c .before .before .before .before .if1 .left), ne-eqb _ _ (c .before .before .before .if2 .left), ne-eqb _ _ (c .before .before .if3 .left), eq-eqb _ _ (c .before .if4 .taken), eq-eqb _ _ (c .if5 .taken)), tt)
+    (simp (ne-eqb _ _ (c .before .before .before .before .if1 .left), ne-eqb _ _ (c .before .before .before .if2 .left), ne-eqb _ _ (c .before .before .if3 .left), eq-eqb _ _ (c .before .if4 .taken), last 2 (length (c .before .before .before .before .before .before .args .log .now)) (c .before .before .before .before .before .before .args .at) (c .before .before .before .before .before .before .args .left) (c .before .before .before .before .before .before .pre) (c .if5 .taken)), tt)
 
 returns-5 : tie.Need-returns-5
 unfolding byMark
 returns-5 c =
-    (simp (ne-eqb _ _ (c .before .before .before .before .if1 .left), ne-eqb _ _ (c .before .before .before .if2 .left), ne-eqb _ _ (c .before .before .if3 .left), eq-eqb _ _ (c .before .if4 .taken), ne-eqb _ _ (c .if5 .left)), tt)
+    (simp (ne-eqb _ _ (c .before .before .before .before .if1 .left), ne-eqb _ _ (c .before .before .before .if2 .left), ne-eqb _ _ (c .before .before .if3 .left), eq-eqb _ _ (c .before .if4 .taken), followed 2 (length (c .before .before .before .before .before .before .args .log .now)) (c .before .before .before .before .before .before .args .at) (c .before .before .before .before .before .before .args .left) (c .before .before .before .before .before .before .pre) (c .if5 .left)), tt)
 
 returns-6 : tie.Need-returns-6
 unfolding byMark

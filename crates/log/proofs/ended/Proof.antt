@@ -1,7 +1,6 @@
 -- By the test.
 use borrow.Author.Needs.{needs}
 use borrow.Author.Tests.{eq-eqb, ne-eqb}
-use native.Mathlib.Omega.{arith}
 use Rattle.log.proofs.ended.Statement.{statement}
 use Rattle.log.proofs.ended.Tie as tie
 

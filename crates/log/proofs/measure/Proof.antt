@@ -1,11 +1,10 @@
 -- What is left from each place gives the whole answer. The measure is the bytes that are left.
 use borrow.Author.Needs.{needs}
-use mathlib.Core.Path.{_≡_, sym, _∙_}
-use Prim.Native.Nat.{_+_, _-_, _≤_, _<_}
+use Prim.Native.Nat.{_+_, _-_, _<_}
 use native.Mathlib.Omega.{arith}
 use lib.ListN.{length}
 use borrow.Author.Tests.{le-ltb, lt-ltb}
-use Rattle.log.specs.Measure.{measureOf, ticksOf, readingsOf}
+use Rattle.log.specs.Measure.{measureOf, ticksOf}
 use Rattle.log.proofs.Turn.{Here, here-first, stop, over, turn}
 use Rattle.log.proofs.measure.Statement.{statement}
 use Rattle.log.proofs.measure.Tie as tie

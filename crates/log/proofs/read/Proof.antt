@@ -1,8 +1,11 @@
 -- The end, a lone byte, then the mark.
 use borrow.Author.Needs.{needs}
-use borrow.Author.Tests.{le-ltb, lt-ltb, le-leb, lt-leb}
-use mathlib.Core.Path.{_∙_}
+use Prim.Native.Nat.{_-_}
+use lib.ListN.{length}
+use borrow.Author.Tests.{le-leb, lt-leb}
+use mathlib.Core.Path.{refl, _∙_}
 use Rattle.log.specs.Log.{readAt}
+use Rattle.log.proofs.Places.{cut-short, whole}
 use Rattle.log.proofs.read.Statement.{statement}
 use Rattle.log.proofs.read.Tie as tie
 
@@ -12,12 +15,13 @@ returns c = (simp (le-leb _ _ (c .if1 .taken)), tt)
 
 returns-2 : tie.Need-returns-2
 unfolding readAt
-returns-2 c = (simp (lt-leb _ _ (c .before .if1 .left), lt-ltb _ _ (c .if2 .taken)), tt)
+returns-2 c =
+    let a = c .before .before .before .args in (simp (lt-leb _ _ (c .before .if1 .left), cut-short 2 (length (a .log .now)) (a .at) (length (a .log .now) - a .at) (refl, c .before .if1 .left) (c .if2 .taken)), tt)
 
 returns-3 : tie.Need-returns-3
 unfolding readAt
 returns-3 c =
-    (c .by-mark .ensures .0 ∙ rw (lt-leb _ _ (c .before .before .before .before .before .if1 .left), le-ltb _ _ (c .before .before .before .before .if2 .left), c .before .word .ensures), c .by-mark .ensures .1)
+    let a = c .before .before .before .before .before .before .before .args in (c .by-mark .ensures .0 ∙ rw (lt-leb _ _ (c .before .before .before .before .before .if1 .left), whole 2 (length (a .log .now)) (a .at) (length (a .log .now) - a .at) (refl, c .before .before .before .before .before .if1 .left) (c .before .before .before .before .if2 .left), c .before .word .ensures), c .by-mark .ensures .1)
 
 pub read-spec : {M : Type 1} → statement M
 read-spec =

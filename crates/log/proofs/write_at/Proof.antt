@@ -1,23 +1,25 @@
 -- By the two tests.
 use borrow.Author.Needs.{needs}
 use native.Mathlib.Omega.{arith}
+use lib.ListN.{length}
 use borrow.Author.Tests.{le-ltb, lt-ltb}
 use Rattle.log.specs.Log.{writeAt}
+use Rattle.log.proofs.Places.{cut-short, whole}
 use Rattle.log.proofs.write_at.Statement.{statement}
 use Rattle.log.proofs.write_at.Tie as tie
 
 returns : tie.Need-returns
 unfolding writeAt
-returns c = (simp (lt-ltb _ _ (c .if1 .taken)), tt)
+returns c = (simp (cut-short 4 (length (c .before .args .log .now)) (c .before .args .at) (c .before .args .left) (c .before .pre) (c .if1 .taken)), tt)
 
 returns-2 : tie.Need-returns-2
 unfolding writeAt
-returns-2 c = (simp (le-ltb _ _ (c .before .before .if1 .left), lt-ltb _ _ (c .if2 .taken)), tt)
+returns-2 c = (simp (whole 4 (length (c .before .before .before .args .log .now)) (c .before .before .before .args .at) (c .before .before .before .args .left) (c .before .before .before .pre) (c .before .before .if1 .left), lt-ltb _ _ (c .if2 .taken)), tt)
 
 returns-3 : tie.Need-returns-3
 unfolding writeAt
 returns-3 c =
-    (simp (le-ltb _ _ (c .before .before .before .if1 .left), le-ltb _ _ (c .before .if2 .left)), omega arith)
+    (simp (whole 4 (length (c .before .before .before .before .args .log .now)) (c .before .before .before .before .args .at) (c .before .before .before .before .args .left) (c .before .before .before .before .pre) (c .before .before .before .if1 .left), le-ltb _ _ (c .before .if2 .left)), omega arith)
 
 pub write-at-spec : {M : Type 1} → statement M
 write-at-spec =

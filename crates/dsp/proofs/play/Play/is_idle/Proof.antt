@@ -1,6 +1,5 @@
 -- Both tests.
 use borrow.Author.Needs.{needs}
-use Rattle.dsp.specs.Voice.{idle}
 use Rattle.dsp.proofs.play.Play.is_idle.Statement.{statement}
 use Rattle.dsp.proofs.play.Play.is_idle.Tie as tie
 
