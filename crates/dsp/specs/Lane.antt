@@ -10,7 +10,7 @@ use Rattle.numbers.specs.Signed.{highZ}
 use Rattle.numbers.specs.Unsigned.{wrapped}
 use Rattle.sound.specs.Sound.{even, joined}
 use Rattle.dsp.specs.Envelope.{isOff}
-use Rattle.dsp.specs.Voice.{Sounding, Stepped, entryOf, withSample, voiceStep}
+use Rattle.dsp.specs.Voice.{Sounding, Stepped, withKey, withSample, entryOf, voiceStep}
 use Rattle.dsp.specs.Mix.{bit, scaledOutput, silent, heard}
 use Rattle.dsp.specs.Sheet.{laneBytes}
 use Rattle.dsp.specs.declared.adsr.EnvelopePhase.the-variants.{Attack, Release}
@@ -92,22 +92,8 @@ voiceOf v p samples =
 -- KOFF: key_on clear, Release, only for a phase not Off
 unfoldable pub keyedOff : Bool → Play → Play
 keyedOff on p =
-    if on && not (isOff (p .envelope .phase)) then
-    record {
-      «key_on» = false;
-      envelope = record { level = p .envelope .level; phase = Release; counter = p .envelope .counter };
-      addr = p .addr;
-      «nibble_idx» = p .«nibble_idx»;
-      «buffer_fill» = p .«buffer_fill»;
-      prev1 = p .prev1;
-      prev2 = p .prev2;
-      «block_end» = p .«block_end»;
-      «pitch_counter» = p .«pitch_counter»;
-      «current_sample» = p .«current_sample»;
-      history = p .history;
-      endx = p .endx;
-    }
-    else p
+    if on && not (isOff (p .envelope .phase)) then withKey p false (record { level = p .envelope .level; phase = Release; counter = p .envelope .counter }) else
+    p
 
 -- KON: Attack, the directory address, and zeros in all else but the samples of the old block
 unfoldable pub keyedOn : Bool → ℕ → ℕ → Play → Play

@@ -33,6 +33,51 @@ pub record FitPlay (p : Play) : Type 0 where
   pub position : p .«pitch_counter» ≤ 0x7FFF
   pub block : FitBlock p
 
+-- ---- the same but for some of its numbers
+
+abbrev pub withKey : Play → Bool → Envelope → Play
+withKey p on envelope =
+    record {
+      «key_on» = on;
+      envelope = envelope;
+      addr = p .addr;
+      «nibble_idx» = p .«nibble_idx»;
+      «buffer_fill» = p .«buffer_fill»;
+      prev1 = p .prev1;
+      prev2 = p .prev2;
+      «block_end» = p .«block_end»;
+      «pitch_counter» = p .«pitch_counter»;
+      «current_sample» = p .«current_sample»;
+      history = p .history;
+      endx = p .endx;
+    }
+
+abbrev pub withEnvelope : Play → Envelope → Play
+withEnvelope p e = withKey p (p .«key_on») e
+
+abbrev withTone : Play → ℕ → ℤ → Play
+withTone p position sample =
+    record {
+      «key_on» = p .«key_on»;
+      envelope = p .envelope;
+      addr = p .addr;
+      «nibble_idx» = p .«nibble_idx»;
+      «buffer_fill» = p .«buffer_fill»;
+      prev1 = p .prev1;
+      prev2 = p .prev2;
+      «block_end» = p .«block_end»;
+      «pitch_counter» = position;
+      «current_sample» = sample;
+      history = p .history;
+      endx = p .endx;
+    }
+
+abbrev pub withPosition : Play → ℕ → Play
+withPosition p position = withTone p position (p .«current_sample»)
+
+abbrev pub withSample : Play → ℤ → Play
+withSample p x = withTone p (p .«pitch_counter») x
+
 -- ---- pitch
 
 -- modulated pitch: b + (((x >> 5) · b) >> 10), never negative where x has 16 bits (`pitch-is`)
@@ -52,21 +97,7 @@ samplesTaken p pitch x = positionOf p pitch x / 0x1000 - p .«pitch_counter» % 
 
 -- level 0, Off, key_on clear
 unfoldable pub muted : Play → Play
-muted p =
-    record {
-      «key_on» = false;
-      envelope = record { level = 0; phase = Off; counter = p .envelope .counter };
-      addr = p .addr;
-      «nibble_idx» = p .«nibble_idx»;
-      «buffer_fill» = p .«buffer_fill»;
-      prev1 = p .prev1;
-      prev2 = p .prev2;
-      «block_end» = p .«block_end»;
-      «pitch_counter» = p .«pitch_counter»;
-      «current_sample» = p .«current_sample»;
-      history = p .history;
-      endx = p .endx;
-    }
+muted p = withKey p false (record { level = 0; phase = Off; counter = p .envelope .counter })
 
 -- the block at a lies in the buffer; an end block sets ENDX
 unfoldable pub filled : ℕ → ℤ → ℤ → Bool → Play → Play
@@ -157,57 +188,6 @@ consume ram dir srcn (suc n) s =
     consume ram dir srcn n (takeOne ram dir srcn s)
 
 -- ---- the tick
-
-abbrev pub withEnvelope : Play → Envelope → Play
-withEnvelope p e =
-    record {
-      «key_on» = p .«key_on»;
-      envelope = e;
-      addr = p .addr;
-      «nibble_idx» = p .«nibble_idx»;
-      «buffer_fill» = p .«buffer_fill»;
-      prev1 = p .prev1;
-      prev2 = p .prev2;
-      «block_end» = p .«block_end»;
-      «pitch_counter» = p .«pitch_counter»;
-      «current_sample» = p .«current_sample»;
-      history = p .history;
-      endx = p .endx;
-    }
-
-abbrev pub withPosition : Play → ℕ → Play
-withPosition p position =
-    record {
-      «key_on» = p .«key_on»;
-      envelope = p .envelope;
-      addr = p .addr;
-      «nibble_idx» = p .«nibble_idx»;
-      «buffer_fill» = p .«buffer_fill»;
-      prev1 = p .prev1;
-      prev2 = p .prev2;
-      «block_end» = p .«block_end»;
-      «pitch_counter» = position;
-      «current_sample» = p .«current_sample»;
-      history = p .history;
-      endx = p .endx;
-    }
-
-abbrev pub withSample : Play → ℤ → Play
-withSample p x =
-    record {
-      «key_on» = p .«key_on»;
-      envelope = p .envelope;
-      addr = p .addr;
-      «nibble_idx» = p .«nibble_idx»;
-      «buffer_fill» = p .«buffer_fill»;
-      prev1 = p .prev1;
-      prev2 = p .prev2;
-      «block_end» = p .«block_end»;
-      «pitch_counter» = p .«pitch_counter»;
-      «current_sample» = x;
-      history = p .history;
-      endx = p .endx;
-    }
 
 -- key_on is clear and phase Off
 abbrev pub idle : Play → Bool
