@@ -2,10 +2,11 @@
 use mathlib.Core.Bool.{_&&_}
 use mathlib.Core.List.{List, [], _∷_}
 use mathlib.Core.Logic.{_≢_}
-use mathlib.Core.Path.{_≡_, refl}
+use mathlib.Core.Path.{_≡_, refl, sym, ap}
 use Prim.Native.Nat.{ℕ, _+_, _*_}
 use lib.IntN.{pos}
 use lib.ListN.{length}
+use borrow.Author.Tests.{eqb-true}
 use Rattle.numbers.specs.Choice.{_<?_, _=?_}
 use Rattle.numbers.proofs.Choice.{tested}
 use Rattle.dsp.specs.Fit.{fit}
@@ -15,10 +16,14 @@ use Rattle.dsp.specs.Tick.{After, refused, stepOf, Drove, undriven, driveOf}
 use Rattle.dsp.specs.declared.registers.Dsp.{Dsp}
 use Rattle.dsp.specs.declared.tick.Work.{Work}
 use Rattle.log.specs.Measure.{ticksOf, readingsOf, refusedBy as unmeasured, total, measureOf}
-use Rattle.log.specs.Log.{decode}
+use Rattle.log.specs.Log.{readAt, decode}
 use Rattle.log.specs.declared.Record.{Record}
+use Rattle.log.specs.declared.Record.the-variants.{Write, Ticks, Reading}
+use Rattle.log.specs.declared.Next.{Next}
+use Rattle.log.specs.declared.Next.the-variants.{On, Off}
 use Rattle.log.specs.declared.Measured.{Measured}
 use Rattle.sitting.specs.Run.{Outcome, refusedBy as unrun, runMeasured, runWith}
+use Rattle.sitting.specs.Parts.{Told, Parted, untold, unparted, stopAt, recordAt, nextAt, sounding, partOf}
 use Rattle.rework.specs.Rework.{setOf, only, Left, refusedBy as unreworked, refusalOf, reworkOf}
 use Rattle.rework.specs.Demands.{Demand1}
 
@@ -67,6 +72,23 @@ run-refused w d ram log pcm sheet readings =
     (λ _. tested P ((length pcm =? m .ticks * 4) && (length sheet =? m .ticks * 36) && (length readings =? m .readings)) (λ _ h. absurd (h refl)) (λ _ h. refl))
     (λ _ h. refl)) (λ _ h. refl)) (λ _ h. refl)
 
+next-refused : (n : Next) (d : Dsp) (at left : ℕ) → left ≡ 0 → nextAt n d at .refusal ≢ 0 → nextAt n d at ≡ untold (nextAt n d at .refusal) d at left
+unfolding nextAt stopAt recordAt
+next-refused (Off k) d at left z =
+    tested (λ (t : Told). t .refusal ≢ 0 → t ≡ untold (t .refusal) d at left) (k =? 0) (λ _ h. absurd (h refl)) (λ _ h. ap (untold k d at) (sym z))
+next-refused (On (Write r x) behind) d at left z = λ h. absurd (h refl)
+next-refused (On (Ticks n) behind) d at left z = λ h. absurd (h refl)
+next-refused (On (Reading r) behind) d at left z = λ h. absurd (h refl)
+
+part-refused : (d : Dsp) (at left : ℕ) (ram log pcm : List ℕ) → partOf d at left ram log pcm .told .refusal ≢ 0
+    → partOf d at left ram log pcm ≡ unparted (partOf d at left ram log pcm .told .refusal) d at left ram pcm
+unfolding partOf sounding
+part-refused d at left ram log pcm =
+    let P : Parted → Type 0 = (λ a. a .told .refusal ≢ 0 → a ≡ unparted (a .told .refusal) d at left ram pcm) in
+    tested P (length ram =? 0x10000) (λ _. tested P (fit d) (λ _. tested P (60000 <? length log) (λ _ h. refl) (λ _. tested P (left =? 0)
+    (λ z h. let e = next-refused (readAt log at) d at left (eqb-true left 0 z) h in λ i. record { told = e i; ram = ram; pcm = pcm })
+    (λ _. tested P (length pcm <? 4) (λ _ h. refl) (λ _ h. absurd (h refl))))) (λ _ h. refl)) (λ _ h. refl)
+
 rework-refused : (s : ℕ) (start end : Dsp) (ram log₁ log₂ sheet pcm readings : List ℕ) → reworkOf s start end ram log₁ log₂ sheet pcm readings .refusal ≢ 0
     → reworkOf s start end ram log₁ log₂ sheet pcm readings ≡ unreworked (reworkOf s start end ram log₁ log₂ sheet pcm readings .refusal) start sheet pcm readings
 unfolding reworkOf
@@ -79,4 +101,4 @@ rework-refused s start end ram log₁ log₂ sheet pcm readings =
     (λ _ h. refl)
 
 pub demand1 : Demand1
-demand1 = (write-refused, render-refused, step-refused, drive-refused, measure-refused, run-refused, rework-refused)
+demand1 = (write-refused, render-refused, step-refused, drive-refused, measure-refused, run-refused, part-refused, rework-refused)

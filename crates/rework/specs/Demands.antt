@@ -1,5 +1,5 @@
 -- The demands, as statements about the definitions that the contracts cite: `writeOf`, `stepOf`, `renderOf`, `driveOf`, `measureOf`, `runWith`,
--- `runOf`, `reworkOf`. (That no call traps or runs on is what the proof of any function says. That the definitions are the given
+-- `runOf`, `partOf`, `reworkOf`. (That no call traps or runs on is what the proof of any function says. That the definitions are the given
 -- Rust's is compared, not proved.) Demand 1: `demand1`; demand 2: `demand2`; demand 3: `demand3`, in proofs/.
 use mathlib.Core.Bool.{true}
 use mathlib.Core.List.{List, [], _∷_, _++_}
@@ -20,6 +20,7 @@ use Rattle.log.specs.Measure.{measureOf, refusedBy as unmeasured}
 use Rattle.log.specs.declared.Record.{Record}
 use Rattle.log.specs.declared.Record.the-variants.{Write, Ticks, Reading}
 use Rattle.sitting.specs.Run.{Outcome, refusedBy as unrun, runWith, runOf}
+use Rattle.sitting.specs.Parts.{unparted, partOf}
 use Rattle.rework.specs.Alike.{without}
 use Rattle.rework.specs.Members.{modesOf, quiet, voicesIn}
 use Rattle.rework.specs.Differ.{Outside, SameBut, Value}
@@ -37,6 +38,8 @@ Demand1 =
     × ((log : List ℕ) → measureOf log .refusal ≢ 0 → measureOf log ≡ unmeasured (measureOf log .refusal))
     × ((w : Work) (d : Dsp) (ram log pcm sheet readings : List ℕ) → runWith w d ram log pcm sheet readings .refusal ≢ 0
     → runWith w d ram log pcm sheet readings ≡ unrun (runWith w d ram log pcm sheet readings .refusal) d ram pcm sheet readings)
+    × ((d : Dsp) (at left : ℕ) (ram log pcm : List ℕ) → partOf d at left ram log pcm .told .refusal ≢ 0
+    → partOf d at left ram log pcm ≡ unparted (partOf d at left ram log pcm .told .refusal) d at left ram pcm)
     × ((s : ℕ) (start end : Dsp) (ram log₁ log₂ sheet pcm readings : List ℕ) → reworkOf s start end ram log₁ log₂ sheet pcm readings .refusal ≢ 0
     → reworkOf s start end ram log₁ log₂ sheet pcm readings ≡ unreworked (reworkOf s start end ram log₁ log₂ sheet pcm readings .refusal) start sheet pcm readings)
 

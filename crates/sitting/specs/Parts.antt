@@ -43,6 +43,10 @@ telling d at left heard = record { refusal = 0; dsp = d; at = at; left = left; h
 abbrev pub untold : ℕ → Dsp → ℕ → ℕ → Told
 untold k d at left = record { refusal = k; dsp = d; at = at; left = left; heard = Nothing }
 
+-- a refused part leaves all as it was
+abbrev pub unparted : ℕ → Dsp → ℕ → ℕ → List ℕ → List ℕ → Parted
+unparted k d at left ram pcm = record { told = untold k d at left; ram = ram; pcm = pcm }
+
 -- ---- at a record
 
 -- no record: the end, or a refusal
@@ -80,12 +84,12 @@ unfoldable pub partOf : Dsp → ℕ → ℕ → List ℕ → List ℕ → List �
 partOf d at left ram log pcm =
     if length ram =? 0x10000 then
     (if fit d then
-    (if 60000 <? length log then record { told = untold 3 d at left; ram = ram; pcm = pcm } else
+    (if 60000 <? length log then unparted 3 d at left ram pcm else
     if left =? 0 then record { told = nextAt (readAt log at) d at; ram = ram; pcm = pcm } else
-    if length pcm <? 4 then record { told = untold 10 d at left; ram = ram; pcm = pcm } else
+    if length pcm <? 4 then unparted 10 d at left ram pcm else
     sounding (ticksNow left (length pcm)) d at left ram pcm)
-    else record { told = untold 2 d at left; ram = ram; pcm = pcm })
-    else record { told = untold 1 d at left; ram = ram; pcm = pcm }
+    else unparted 2 d at left ram pcm)
+    else unparted 1 d at left ram pcm
 
 -- ---- that parts come to an end
 
