@@ -9,7 +9,7 @@ use native.Mathlib.Nat.{lt-of-le-of-lt}
 use native.Mathlib.Numerals.{one-add}
 use native.Mathlib.Decide.{ℕ-discrete}
 use borrow.Author.Tests.{eqb-true, eqb-false, eq-eqb, ne-eqb}
-use lib.Bits.{bitAnd, bitOr, and-shr, or-shr, and-step, or-step, and-le-l, or-lt}
+use lib.Bits.{bitAnd, bitOr, bitXor, differ, and-shr, or-shr, xor-shr, and-step, or-step, xor-step, and-le-l, or-lt, and-mask, xor-add-and}
 use lib.Count.{ones, ones-step}
 use lib.Pow.{pow-lt, shr-shr}
 use Rattle.numbers.specs.Choice.{if_then_else_, _=?_}
@@ -35,6 +35,12 @@ op-digit : (op f : ℕ → ℕ → ℕ) → ((x y k : ℕ) → op x y / 2 ^ k �
 op-digit op f shr step small x y k =
     let l = small (digit x k) (digit y k) (omega arith) (omega arith) in
     ap (λ (n : ℕ). n % 2) (shr x y k ∙ step (x / 2 ^ k) (y / 2 ^ k)) ∙ omega (arith, l)
+
+and-digit : (x y k : ℕ) → digit (bitAnd x y) k ≡ min (digit x k) (digit y k)
+and-digit = op-digit bitAnd min and-shr and-step (λ d e a b. omega arith)
+
+or-digit : (x y k : ℕ) → digit (bitOr x y) k ≡ max (digit x k) (digit y k)
+or-digit = op-digit bitOr max or-shr or-step (λ d e a b. omega arith)
 
 -- numbers of w digits that are equal digit by digit
 digits-ext : (w x y : ℕ) → x < 2 ^ w → y < 2 ^ w → ((k : ℕ) → k < w → digit x k ≡ digit y k) → x ≡ y
@@ -84,10 +90,10 @@ marked false d l = omega arith
 with-digit : (x n k : ℕ) (on : Bool) → n < 8 → k < 8 → digit (withBit x n on) k ≡ (if k =? n then (if on then 1 else 0) else digit x k)
 unfolding withBit all
 with-digit x n k true l m =
-    op-digit bitOr max or-shr or-step (λ d e a b. omega arith) x (2 ^ n) k ∙ ap (max (digit x k)) (table (λ (i : ℕ). 2 ^ i) 1 0 refl n k l m)
+    or-digit x (2 ^ n) k ∙ ap (max (digit x k)) (table (λ (i : ℕ). 2 ^ i) 1 0 refl n k l m)
     ∙ marked (k =? n) (digit x k) (omega arith) .0
 with-digit x n k false l m =
-    op-digit bitAnd min and-shr and-step (λ d e a b. omega arith) x (255 - 2 ^ n) k ∙ ap (min (digit x k)) (table (λ (i : ℕ). 255 - 2 ^ i) 0 1 refl n k l m)
+    and-digit x (255 - 2 ^ n) k ∙ ap (min (digit x k)) (table (λ (i : ℕ). 255 - 2 ^ i) 0 1 refl n k l m)
     ∙ marked (k =? n) (digit x k) (omega arith) .1
 
 one-bit : (on : Bool) → ((if on then 1 else 0) =? 1) ≡ on
@@ -115,6 +121,53 @@ same-digit d e l m h =
 -- bytes that are equal bit by bit
 pub byte-ext : (x y : ℕ) → x < 256 → y < 256 → ((k : ℕ) → k < 8 → bit x k ≡ bit y k) → x ≡ y
 byte-ext x y l m h = digits-ext 8 x y l m (λ k n. same-digit (digit x k) (digit y k) (omega arith) (omega arith) (h k n))
+
+-- ---- two bytes in one
+
+differ-one : (d : ℕ) → d < 2 → differ d 1 ≡ 1 - d
+differ-one zero l = refl
+differ-one (suc zero) l = refl
+differ-one (suc (suc d)) l = absurd (omega arith)
+
+differ-small : (d e : ℕ) → d < 2 → e < 2 → differ d e < 2
+differ-small zero e l m = m
+differ-small (suc zero) zero l m = omega arith
+differ-small (suc zero) (suc e) l m = omega arith
+differ-small (suc (suc d)) e l m = absurd (omega arith)
+
+ones-digit : (k : ℕ) → k < 8 → digit 255 k ≡ 1
+unfolding all
+ones-digit k l = eqb-true _ _ (all-at (λ (i : ℕ). digit 255 i =? 1) 8 refl k l)
+
+-- the digits that are not a's
+rest-digit : (a k : ℕ) → k < 8 → digit (255 - a % 256) k ≡ 1 - digit a k
+rest-digit a k l =
+    let b = bitAnd a 255 in
+    let e : b ≡ a % 256 = and-mask a 8 in
+    let f : bitAnd b 255 ≡ b % 256 = and-mask b 8 in
+    let g : 255 - a % 256 ≡ bitXor b 255 = (let h = xor-add-and b 255 in omega (arith, e, f, h)) in
+    let x = op-digit bitXor differ xor-shr xor-step differ-small b 255 k in
+    let o = ones-digit k l in
+    let i : digit b k ≡ digit a k = (let y = and-digit a 255 k in omega (arith, y, o)) in
+    ap (λ (n : ℕ). digit n k) g ∙ x ∙ rw (o, i) (differ-one (digit a k) (omega arith))
+
+-- the bits of x that are in a, and those of y that are not
+abbrev mixed : ℕ → ℕ → ℕ → ℕ
+mixed a x y = bitOr (bitAnd x a) (bitAnd y (255 - a % 256))
+
+mixed-digit : (a x y k : ℕ) → k < 8 → digit (mixed a x y) k ≡ max (min (digit x k) (digit a k)) (min (digit y k) (1 - digit a k))
+mixed-digit a x y k l =
+    or-digit (bitAnd x a) (bitAnd y (255 - a % 256)) k ∙ rw (and-digit x a k, and-digit y (255 - a % 256) k, rest-digit a k l)
+
+pub bit-mixed : (a x y k : ℕ) → k < 8 → bit (mixed a x y) k ≡ (if bit a k then bit x k else bit y k)
+bit-mixed a x y k l =
+    let d = mixed-digit a x y k l in
+    tested (λ b. bit (mixed a x y) k ≡ b) (bit a k)
+    (λ e. let f = eqb-true (digit a k) 1 e in let g : digit (mixed a x y) k ≡ digit x k = omega (arith, d, f) in rw g)
+    (λ e. let f = eqb-false (digit a k) 1 e in let g : digit (mixed a x y) k ≡ digit y k = omega (arith, d, f) in rw g)
+
+pub mixed-byte : (a x y : ℕ) → x < 256 → y < 256 → mixed a x y < 256
+mixed-byte a x y l m = or-lt 8 (bitAnd x a) (bitAnd y (255 - a % 256)) (lt-of-le-of-lt (and-le-l x a) l) (lt-of-le-of-lt (and-le-l y (255 - a % 256)) m)
 
 -- ---- the set
 

@@ -32,7 +32,7 @@ use Rattle.log.specs.Measure.{total, measureOf}
 use Rattle.sitting.specs.Run.{Outcome, runOf, runMeasured, runWith}
 use Rattle.sitting.specs.Play.{play, playAll}
 use Rattle.rework.specs.Members.{modesOf, quiet, joinedBy, joinedOver, members, voicesIn}
-use Rattle.rework.specs.Rework.{Left, picked, ownBytes, pickedBytes, refusalOf, reworkOf}
+use Rattle.rework.specs.Rework.{Left, listed, picked, pickedBytes, refusalOf, reworkOf}
 use Rattle.rework.specs.Demands.{Bytes, Reworks}
 use Rattle.rework.specs.Alike.{without, sameRecord, sameRecords, alike}
 use Rattle.rework.proofs.Bits.{itself}
@@ -105,7 +105,7 @@ pub record Seen : Type 0 where
   pub second-runs : run 0x40 .refusal ≡ 0
 
 pub seen : Seen
-unfolding periods periodOf lowered gained weights weightAt shifted firSum firOf byteAt wordAt nibbleAt sampleOf newest decodeBlock tickDue echoRead echoStored echoWritten lengthNow pointerNext echoMoved historyNow echoNow echoTick echoFrom echoLane risen settled fallenTo attackTick decayTick sustainTick releaseTick gainTick phaseTick envelopeTick fitVoices fit keyedOff keyedOn waited noised sourceOf polledOf waitedOf cellAfter cellOf shownCell withBit putBytes added ownCell turned scaledOutput heard dryTurn dryOf masterOf renderOf noiseTick turns silenceVoice silenceAll writeParts writeAt writeOf pairBytes laneBytes turn voicesTick globTick sharedFrom tickOf benchTick ticksOf driveOf stepOf pitchOf positionOf samplesTaken muted filled placed decodedAt nextAddress nextBlock resolved heard-voice takeOne consume advanced interpolated sounded voiceStep writeAt-log ticksAt readingAt byMark readAt decodeFrom decode total measureOf play playAll runMeasured runWith without sameRecord sameRecords alike quiet joinedBy joinedOver members voicesIn picked ownBytes pickedBytes refusalOf reworkOf
+unfolding periods periodOf lowered gained weights weightAt shifted firSum firOf byteAt wordAt nibbleAt sampleOf newest decodeBlock tickDue echoRead echoStored echoWritten lengthNow pointerNext echoMoved historyNow echoNow echoTick echoFrom echoLane risen settled fallenTo attackTick decayTick sustainTick releaseTick gainTick phaseTick envelopeTick fitVoices fit keyedOff keyedOn waited noised sourceOf polledOf waitedOf cellAfter cellOf shownCell withBit putBytes added ownCell turned scaledOutput heard dryTurn dryOf masterOf renderOf noiseTick turns silenceVoice silenceAll writeParts writeAt writeOf pairBytes laneBytes turn voicesTick globTick sharedFrom tickOf benchTick ticksOf driveOf stepOf pitchOf positionOf samplesTaken muted filled placed decodedAt nextAddress nextBlock resolved heard-voice takeOne consume advanced interpolated sounded voiceStep writeAt-log ticksAt readingAt byMark readAt decodeFrom decode total measureOf play playAll runMeasured runWith without sameRecord sameRecords alike quiet joinedBy joinedOver members voicesIn listed picked pickedBytes refusalOf reworkOf
 seen =
     record {
       members = refl;

@@ -1,3 +1,4 @@
+pub mod Listed
 pub mod Bits
 pub mod Lanes
 pub mod Tape

@@ -1,14 +1,13 @@
 -- A rework: its refusals in their order, and what it leaves, for any old sheet (document 01, "Rework").
-use mathlib.Core.Bool.{false, not}
-use mathlib.Core.List.{List}
-use Prim.Native.Nat.{ℕ, _+_, _*_}
-use lib.ListN.{getD, set, length}
-use Rattle.numbers.specs.Choice.{if_then_else_, _=?_}
+use mathlib.Core.Bool.{Bool, false, not, _&&_}
+use mathlib.Core.List.{List, [], _∷_, _++_}
+use Prim.Native.Nat.{ℕ, zero, suc, _-_, _/_, _%_}
+use lib.Bits.{bitAnd, bitOr}
+use lib.ListN.{getD, length}
+use Rattle.numbers.specs.Choice.{if_then_else_, _<?_, _=?_}
 use Rattle.dsp.specs.Machine.{noVoice, newDsp, Parts, apart, together}
 use Rattle.dsp.specs.Fit.{fit}
-use Rattle.dsp.specs.Registers.{turns}
 use Rattle.dsp.specs.Mix.{bit}
-use Rattle.dsp.specs.Lane.{putEndx}
 use Rattle.dsp.specs.declared.registers.Dsp.{Dsp}
 use Rattle.dsp.specs.declared.tick.Work.{Work}
 use Rattle.log.specs.Log.{decode}
@@ -19,28 +18,28 @@ use Rattle.rework.specs.Members.{modesOf, quiet, members, voicesIn}
 
 -- ---- the end record: the old one, with the set's own parts of the new
 
+-- f 0, f 1, .. f (n - 1)
+unfoldable pub listed : {A : Type 0} → (ℕ → A) → ℕ → List A
+listed f zero = []
+listed f (suc n) = listed f n ++ (f n ∷ [])
+
 -- of two arrays of eight, the elements of the set from the new
-abbrev pub pick : {A : Type 0} → A → ℕ → List A → ℕ → List A → List A
-pick d a new j xs = set xs j (if bit a j then getD new j d else getD xs j d)
-
 unfoldable pub picked : {A : Type 0} → A → ℕ → List A → List A → List A
-picked d a new old = turns (pick d a new) 8 old
+picked d a new old = listed (λ j. if bit a j then getD new j d else getD old j d) 8
 
--- $j0 .. $j9
-abbrev pub ownByte : ℕ → List ℕ → ℕ → List ℕ → List ℕ
-ownByte j new k bytes = set bytes (j * 16 + k) (getD new (j * 16 + k) 0)
+-- $j0 .. $j9 of the set's voices
+abbrev pub owns : ℕ → ℕ → Bool
+owns a i = (i % 16 <? 10) && bit a (i / 16)
 
-unfoldable pub ownBytes : ℕ → List ℕ → List ℕ → List ℕ
-ownBytes j new bytes = turns (ownByte j new) 10 bytes
-
--- and the ENDX bit
-abbrev pub pickBytes : ℕ → List ℕ → ℕ → List ℕ → List ℕ
-pickBytes a new j bytes =
-    if bit a j then putEndx j (bit (getD new 0x7C 0) j) (ownBytes j new bytes) else
-    bytes
+-- a register of the end record: of ENDX the set's bits are the new record's, and so are its voices' own registers
+abbrev pub byteOf : ℕ → ℕ → ℕ → ℕ → ℕ
+byteOf a i new old =
+    if i =? 0x7C then bitOr (bitAnd new a) (bitAnd old (255 - a % 256)) else
+    if owns a i then new else
+    old
 
 unfoldable pub pickedBytes : ℕ → List ℕ → List ℕ → List ℕ
-pickedBytes a new old = turns (pickBytes a new) 8 old
+pickedBytes a new old = listed (λ i. byteOf a i (getD new i 0) (getD old i 0)) 128
 
 abbrev pub endOf : ℕ → Parts → Parts → Parts
 endOf a new old =

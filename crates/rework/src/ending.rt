@@ -4,9 +4,8 @@ ghost use Prim.Native.Nat.{_<_};
 ghost use lib.ListN.{length};
 ghost use Rattle.numbers.specs.Choice.{if_then_else_};
 ghost use Rattle.dsp.specs.Machine.{noVoice, apart, together};
-ghost use Rattle.rework.specs.Rework.{picked, ownBytes, pickBytes, pickedBytes, endOf};
+ghost use Rattle.rework.specs.Rework.{picked, byteOf, pickedBytes, endOf};
 use crate::sets::bit;
-use crate::sets::with_bit;
 use dsp::Dsp;
 use dsp::Voice;
 
@@ -49,38 +48,28 @@ fn pick_delays(set: u8, new: [u8; 8], old: [u8; 8]) -> [u8; 8]
     delays
 }
 
-// $j0 to $j9 of voice j.
-fn own_bytes(j: usize, new: &[u8], bytes: &mut [u8])
-    requires { ⌜ (j < 8) × (length (now new) ≡ 128) × (length (now bytes) ≡ 128) ⌝ }
-    ensures { λ r. ⌜ now (bytes .exit) ≡ ownBytes j (now (new .entry)) (now (bytes .entry)) ⌝ }
+// Of ENDX the set's bits are taken, and the voices' own registers $j0 to $j9.
+fn byte_of(set: u8, i: usize, new: u8, old: u8) -> u8
+    requires { ⌜ i < 128 ⌝ }
+    ensures { λ r. ⌜ r ≡ byteOf set i new old ⌝ }
 {
-    let mut k: usize = 0;
-    while k < 10 {
-        bytes[j * 16 + k] = new[j * 16 + k];
-        k += 1;
+    if i == 0x7C {
+        new & set | old & (255 - set)
+    } else if (i % 16 < 10) & bit(set, i / 16) {
+        new
+    } else {
+        old
     }
-}
-
-fn pick_own(set: u8, new: &[u8], j: usize, bytes: &mut [u8])
-    requires { ⌜ (j < 8) × (length (now new) ≡ 128) × (length (now bytes) ≡ 128) ⌝ }
-    ensures { λ r. ⌜ now (bytes .exit) ≡ pickBytes set (now (new .entry)) j (now (bytes .entry)) ⌝ }
-{
-    if !bit(set, j) {
-        return;
-    }
-    own_bytes(j, new, bytes);
-    let endx = bytes[0x7C];
-    bytes[0x7C] = with_bit(endx, j, bit(new[0x7C], j));
 }
 
 fn pick_bytes(set: u8, new: &[u8], bytes: &mut [u8])
     requires { ⌜ (length (now new) ≡ 128) × (length (now bytes) ≡ 128) ⌝ }
     ensures { λ r. ⌜ now (bytes .exit) ≡ pickedBytes set (now (new .entry)) (now (bytes .entry)) ⌝ }
 {
-    let mut j: usize = 0;
-    while j < 8 {
-        pick_own(set, new, j, bytes);
-        j += 1;
+    let mut i: usize = 0;
+    while i < 128 {
+        bytes[i] = byte_of(set, i, new[i], bytes[i]);
+        i += 1;
     }
 }
 

@@ -1,32 +1,31 @@
--- After j turns it is j turns of the choice.
+-- After i stores the first i are chosen.
 use borrow.Author.Needs.{needs}
-use mathlib.Core.Path.{_≡_, refl, _∙_}
-use Prim.Native.Nat.{_≤_, _-_}
-use native.Mathlib.Numerals.{add-one}
+use Prim.Native.Nat.{_-_}
 use native.Mathlib.Omega.{arith}
-use lib.ListN.{length}
-use Rattle.dsp.specs.Registers.{turns}
-use Rattle.rework.specs.Rework.{pickBytes, pickedBytes}
+use lib.ListN.{getD}
+use Rattle.rework.specs.Rework.{byteOf, pickedBytes}
+use Rattle.rework.proofs.Listed.{Stored, stored-none, stored-more, stored-at, stored-all}
 use Rattle.rework.proofs.ending.pick_bytes.Statement.{statement}
 use Rattle.rework.proofs.ending.pick_bytes.Tie as tie
 
 abbrev Inv-loop : tie.InvT-loop
-Inv-loop set new bytes₀ j₀ bytes j = (j ≤ 8) × (bytes ≡ turns (pickBytes set new) j bytes₀) × (length bytes ≡ 128)
+Inv-loop set new bytes₀ i₀ bytes i = Stored 128 (λ k. byteOf set k (getD new k 0) (getD bytes₀ k 0)) bytes₀ i bytes
 
 abbrev μ-loop : tie.MeasureT-loop
-μ-loop set new bytes₀ j₀ bytes j = 8 - j
+μ-loop set new bytes₀ i₀ bytes i = 128 - i
 
 loop-holds : tie.Need-loop-holds Inv-loop μ-loop
-unfolding turns
-loop-holds c = (search needs, refl, search needs)
+loop-holds c = stored-none (search needs)
 
 loop-again : tie.Need-loop-again Inv-loop μ-loop
-unfolding turns
-loop-again c = (search needs, rw (c .before .before .pick-own .ensures, add-one, turns, ← c .before .before .before .before .before .loop .inv .1), c .before .before .pick-own .kept .1 .1 .1 .0 ∙ c .before .before .before .before .before .loop .inv .2)
+loop-again c =
+    let s = c .before .before .before .before .loop .inv in
+    let l = c .before .before .before .loop-test .taken in
+    stored-more s l (rw (c .byte-of .ensures, stored-at s 0 l))
 
 returns : tie.Need-returns Inv-loop μ-loop
 unfolding pickedBytes
-returns c = let e : 8 ≡ c .before .loop .j = omega arith in rw e (c .before .loop .inv .1)
+returns c = stored-all (c .before .loop .inv) (omega arith)
 
 pub pick-bytes-spec : {M : Type 1} → statement M
 pick-bytes-spec =
@@ -35,7 +34,10 @@ pick-bytes-spec =
     Inv-loop
     μ-loop
     loop-holds
+    (λ c. search needs)
+    (λ c. search needs)
     (λ c κs. search needs)
+    (λ c. search needs)
     (λ c. search needs)
     (λ c. search needs)
     loop-again

@@ -1,31 +1,33 @@
--- After j turns it is j turns of the choice.
+-- After j stores the first j are chosen.
 use borrow.Author.Needs.{needs}
-use mathlib.Core.Path.{_≡_, refl}
-use Prim.Native.Nat.{_≤_, _-_}
-use native.Mathlib.Numerals.{add-one}
+use Prim.Native.Nat.{_-_}
 use native.Mathlib.Omega.{arith}
-use Rattle.dsp.specs.Registers.{turns}
-use Rattle.rework.specs.Rework.{pick, picked}
+use lib.ListN.{getD}
+use Rattle.numbers.specs.Choice.{if_then_else_}
+use Rattle.dsp.specs.Mix.{bit}
+use Rattle.rework.specs.Rework.{picked}
+use Rattle.rework.proofs.Listed.{Stored, stored-none, stored-more, stored-at, stored-all}
 use Rattle.rework.proofs.ending.pick_delays.Statement.{statement}
 use Rattle.rework.proofs.ending.pick_delays.Tie as tie
 
 abbrev Inv-loop : tie.InvT-loop
-Inv-loop set new delays₀ j₀ delays j = (j ≤ 8) × (delays ≡ turns (pick 0 set new) j delays₀)
+Inv-loop set new delays₀ j₀ delays j = Stored 8 (λ i. if bit set i then getD new i 0 else getD delays₀ i 0) delays₀ j delays
 
 abbrev μ-loop : tie.MeasureT-loop
 μ-loop set new delays₀ j₀ delays j = 8 - j
 
 loop-holds : tie.Need-loop-holds Inv-loop μ-loop
-unfolding turns
-loop-holds c = (search needs, refl)
+loop-holds c = stored-none (search needs)
 
 loop-again : tie.Need-loop-again Inv-loop μ-loop
-unfolding turns
-loop-again c = (search needs, rw (c .delay-of .ensures, c .before .bit .ensures, add-one, turns, ← c .before .before .before .loop .inv .1))
+loop-again c =
+    let s = c .before .before .before .loop .inv in
+    let l = c .before .before .loop-test .taken in
+    stored-more s l (rw (c .delay-of .ensures, c .before .bit .ensures, stored-at s 0 l))
 
 returns : tie.Need-returns Inv-loop μ-loop
 unfolding picked
-returns c = let e : 8 ≡ c .before .loop .j = omega arith in rw e (c .before .loop .inv .1)
+returns c = stored-all (c .before .loop .inv) (omega arith)
 
 pub pick-delays-spec : {M : Type 1} → statement M
 pick-delays-spec =

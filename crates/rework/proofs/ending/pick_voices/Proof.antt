@@ -1,32 +1,34 @@
--- After j turns it is j turns of the choice.
+-- After j stores the first j are chosen.
 use borrow.Author.Needs.{needs}
-use mathlib.Core.Path.{_≡_, refl}
-use Prim.Native.Nat.{_≤_, _-_}
-use native.Mathlib.Numerals.{add-one}
+use Prim.Native.Nat.{_-_}
 use native.Mathlib.Omega.{arith}
-use Rattle.dsp.specs.Registers.{turns}
+use lib.ListN.{getD}
+use Rattle.numbers.specs.Choice.{if_then_else_}
 use Rattle.dsp.specs.Machine.{noVoice}
-use Rattle.rework.specs.Rework.{pick, picked}
+use Rattle.dsp.specs.Mix.{bit}
+use Rattle.rework.specs.Rework.{picked}
+use Rattle.rework.proofs.Listed.{Stored, stored-none, stored-more, stored-at, stored-all}
 use Rattle.rework.proofs.ending.pick_voices.Statement.{statement}
 use Rattle.rework.proofs.ending.pick_voices.Tie as tie
 
 abbrev Inv-loop : tie.InvT-loop
-Inv-loop set new voices₀ j₀ voices j = (j ≤ 8) × (voices ≡ turns (pick noVoice set new) j voices₀)
+Inv-loop set new voices₀ j₀ voices j = Stored 8 (λ i. if bit set i then getD new i noVoice else getD voices₀ i noVoice) voices₀ j voices
 
 abbrev μ-loop : tie.MeasureT-loop
 μ-loop set new voices₀ j₀ voices j = 8 - j
 
 loop-holds : tie.Need-loop-holds Inv-loop μ-loop
-unfolding turns
-loop-holds c = (search needs, refl)
+loop-holds c = stored-none (search needs)
 
 loop-again : tie.Need-loop-again Inv-loop μ-loop
-unfolding turns
-loop-again c = (search needs, rw (c .voice-of .ensures, c .before .bit .ensures, add-one, turns, ← c .before .before .before .before .before .loop .inv .1))
+loop-again c =
+    let s = c .before .before .before .before .before .loop .inv in
+    let l = c .before .before .before .before .loop-test .taken in
+    stored-more s l (rw (c .voice-of .ensures, c .before .bit .ensures, stored-at s noVoice l))
 
 returns : tie.Need-returns Inv-loop μ-loop
 unfolding picked
-returns c = let e : 8 ≡ c .before .loop .j = omega arith in rw e (c .before .loop .inv .1)
+returns c = stored-all (c .before .loop .inv) (omega arith)
 
 pub pick-voices-spec : {M : Type 1} → statement M
 pick-voices-spec =
