@@ -6,7 +6,6 @@ mod modes;
 mod reworking;
 mod sets;
 
-pub use modes::Modes;
 pub use reworking::Reworked;
 pub use reworking::rework;
 pub use reworking::rework_new;
