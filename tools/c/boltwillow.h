@@ -42,10 +42,10 @@ uint8_t bw_run(uint8_t *ram, uint64_t ram_size, const uint8_t *log, uint64_t log
 
 /* Two sittings from power-on whose logs differ in writes to the named voices' own registers, $j0 to $j7; bit j of `named` is voice
    j. Runs the old log, works the named voices of the new one and those that pitch modulation ties to them, and leaves sheet, PCM and
-   readings of the new sitting. RAM is read only. The sheet comes before PCM here.
+   readings of the new sitting. RAM is read only.
    Refuses 1, 3 to 9 of the old log, 3 to 9 of the new, 12, 11, 10, in this order. */
 uint32_t bw_rework(uint8_t named, const uint8_t *ram, uint64_t ram_size, const uint8_t *old_log, uint64_t old_log_size,
-                   const uint8_t *new_log, uint64_t new_log_size, uint8_t *sheet, uint64_t sheet_size, uint8_t *pcm, uint64_t pcm_size,
+                   const uint8_t *new_log, uint64_t new_log_size, uint8_t *pcm, uint64_t pcm_size, uint8_t *sheet, uint64_t sheet_size,
                    uint8_t *readings, uint64_t readings_size);
 
 /* The answer of bw_rework: the refusal; a bit for each voice that was worked; and the number of those. */

@@ -107,8 +107,8 @@ int main(int count, char **word) {
                          old.readings.bytes, old.readings.size);
     if (ran) return refused("The old sitting", ran);
 
-    uint32_t answer = bw_rework(named, ram.bytes, ram.size, old_log.bytes, old_log.size, new_log.bytes, new_log.size, new.sheet.bytes,
-                                new.sheet.size, new.pcm.bytes, new.pcm.size, new.readings.bytes, new.readings.size);
+    uint32_t answer = bw_rework(named, ram.bytes, ram.size, old_log.bytes, old_log.size, new_log.bytes, new_log.size, new.pcm.bytes,
+                                new.pcm.size, new.sheet.bytes, new.sheet.size, new.readings.bytes, new.readings.size);
     if (BW_REFUSAL(answer)) return refused("The rework", BW_REFUSAL(answer));
 
     say_voices("Named voices", named);

@@ -34,7 +34,7 @@ static uint32_t run(int log) {
 
 static uint32_t rework(void) {
     memcpy(bytes, given, sizeof given);
-    return bw_rework(named, bytes[RAM], size[RAM], bytes[OLD], size[OLD], bytes[NEW], size[NEW], bytes[SHEET], size[SHEET], bytes[PCM], size[PCM],
+    return bw_rework(named, bytes[RAM], size[RAM], bytes[OLD], size[OLD], bytes[NEW], size[NEW], bytes[PCM], size[PCM], bytes[SHEET], size[SHEET],
                      bytes[READINGS], size[READINGS]);
 }
 

@@ -59,8 +59,8 @@ pub extern "C" fn bw_rework(
     ram: &[u8],
     old_log: &[u8],
     new_log: &[u8],
-    sheet: &mut [u8],
     pcm: &mut [u8],
+    sheet: &mut [u8],
     readings: &mut [u8],
 ) -> u32
     ensures { λ r. ⌜ _≡_ {A = Reworked} (record { answer = r; sheet = now (sheet .exit); pcm = now (pcm .exit); readings = now (readings .exit) }) (reworkedOf (reworkNewOf named (now (ram .entry)) (now («old_log» .entry)) (now («new_log» .entry)) (now (sheet .entry)) (now (pcm .entry)) (now (readings .entry)))) ⌝ }
