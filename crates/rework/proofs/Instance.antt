@@ -3,28 +3,25 @@
 use mathlib.Core.Bool.{Bool, true, _&&_}
 use mathlib.Core.List.{List, [], _∷_}
 use mathlib.Core.Path.{_≡_, refl}
-use Prim.Native.Nat.{ℕ, zero, suc, _*_, _<_}
+use Prim.Native.Nat.{ℕ, zero, suc, _*_}
 use native.Mathlib.Omega.{arith}
 use lib.ListN.{getD, set, drop, replicate}
 use Rattle.numbers.specs.Choice.{_<?_}
-use Rattle.sound.specs.Sound.{firSum, firOf}
 use Rattle.sound.specs.Clock.{periods, periodOf}
-use Rattle.sound.specs.Envelope.{lowered, gained}
-use Rattle.sound.specs.Gauss.{weights, weightAt}
 use Rattle.sound.specs.Noise.{shifted}
 use Rattle.dsp.specs.Machine.{noVoice, newDsp, apart}
 use Rattle.dsp.specs.Sheet.{laneAt, pairBytes, laneBytes}
-use Rattle.dsp.specs.Brr.{byteAt, wordAt, nibbleAt, sampleOf, newest, decodeBlock}
+use Rattle.dsp.specs.Brr.{byteAt, wordAt, decodeBlock}
 use Rattle.dsp.specs.Clock.{tickDue}
-use Rattle.dsp.specs.Echo.{echoRead, echoStored, echoWritten, lengthNow, pointerNext, echoMoved, historyNow, echoNow, echoTick, echoFrom, echoLane}
-use Rattle.dsp.specs.Envelope.{risen, settled, fallenTo, attackTick, decayTick, sustainTick, releaseTick, gainTick, phaseTick, envelopeTick}
+use Rattle.dsp.specs.Echo.{echoWritten, lengthNow, pointerNext, echoMoved, echoTick, echoFrom, echoLane}
+use Rattle.dsp.specs.Envelope.{attackTick, gainTick, phaseTick, envelopeTick}
 use Rattle.dsp.specs.Fit.{fitVoices, fit}
 use Rattle.dsp.specs.Lane.{keyedOff, keyedOn, waited, noised, sourceOf, polledOf, waitedOf, cellAfter, cellOf, shownCell, withBit, putBytes, added, ownCell, turned}
-use Rattle.dsp.specs.Mix.{scaledOutput, heard, dryTurn, dryOf, masterOf, renderOf}
+use Rattle.dsp.specs.Mix.{scaledOutput}
 use Rattle.dsp.specs.Noise.{noiseTick}
-use Rattle.dsp.specs.Registers.{turns, silenceVoice, silenceAll, writeParts, writeAt, writeOf}
-use Rattle.dsp.specs.Tick.{turn, voicesTick, globTick, sharedFrom, tickOf, benchTick, ticksOf, driveOf, stepOf}
-use Rattle.dsp.specs.Voice.{pitchOf, positionOf, samplesTaken, muted, filled, placed, decodedAt, nextAddress, nextBlock, resolved, heard as heard-voice, takeOne, consume, advanced, interpolated, sounded, voiceStep}
+use Rattle.dsp.specs.Registers.{turns, writeParts, writeAt, writeOf}
+use Rattle.dsp.specs.Tick.{turn, voicesTick, globTick, sharedFrom, tickOf, benchTick, ticksOf}
+use Rattle.dsp.specs.Voice.{pitchOf, positionOf, samplesTaken, muted, filled, placed, decodedAt, nextAddress, nextBlock, resolved, heard, takeOne, consume, advanced, interpolated, sounded, voiceStep}
 use Rattle.dsp.specs.declared.voice.Voice.{Voice}
 use Rattle.dsp.proofs.Tests.{lt, _and_}
 use Rattle.log.specs.Log.{writeAt as writeAt-log, ticksAt, readingAt, byMark, readAt, decodeFrom, decode}
@@ -32,7 +29,7 @@ use Rattle.log.specs.Measure.{total, measureOf}
 use Rattle.sitting.specs.Run.{Outcome, runOf, runMeasured, runWith}
 use Rattle.sitting.specs.Play.{play, playAll}
 use Rattle.rework.specs.Members.{modesOf, quiet, joinedBy, joinedOver, members, voicesIn}
-use Rattle.rework.specs.Rework.{Left, listed, picked, pickedBytes, refusalOf, reworkOf}
+use Rattle.rework.specs.Rework.{Left, listed, picked, refusalOf, reworkOf}
 use Rattle.rework.specs.Demands.{Bytes, Reworks}
 use Rattle.rework.specs.Alike.{without, sameRecord, sameRecords, alike}
 use Rattle.rework.proofs.Bits.{itself}
@@ -105,7 +102,7 @@ pub record Seen : Type 0 where
   pub second-runs : run 0x40 .refusal ≡ 0
 
 pub seen : Seen
-unfolding periods periodOf lowered gained weights weightAt shifted firSum firOf byteAt wordAt nibbleAt sampleOf newest decodeBlock tickDue echoRead echoStored echoWritten lengthNow pointerNext echoMoved historyNow echoNow echoTick echoFrom echoLane risen settled fallenTo attackTick decayTick sustainTick releaseTick gainTick phaseTick envelopeTick fitVoices fit keyedOff keyedOn waited noised sourceOf polledOf waitedOf cellAfter cellOf shownCell withBit putBytes added ownCell turned scaledOutput heard dryTurn dryOf masterOf renderOf noiseTick turns silenceVoice silenceAll writeParts writeAt writeOf pairBytes laneBytes turn voicesTick globTick sharedFrom tickOf benchTick ticksOf driveOf stepOf pitchOf positionOf samplesTaken muted filled placed decodedAt nextAddress nextBlock resolved heard-voice takeOne consume advanced interpolated sounded voiceStep writeAt-log ticksAt readingAt byMark readAt decodeFrom decode total measureOf play playAll runMeasured runWith without sameRecord sameRecords alike quiet joinedBy joinedOver members voicesIn listed picked pickedBytes refusalOf reworkOf
+unfolding periods periodOf shifted byteAt wordAt decodeBlock tickDue echoWritten lengthNow pointerNext echoMoved echoTick echoFrom echoLane attackTick gainTick phaseTick envelopeTick fitVoices fit keyedOff keyedOn waited noised sourceOf polledOf waitedOf cellAfter cellOf shownCell withBit putBytes added ownCell turned scaledOutput noiseTick turns writeParts writeAt writeOf pairBytes laneBytes turn voicesTick globTick sharedFrom tickOf benchTick ticksOf pitchOf positionOf samplesTaken muted filled placed decodedAt nextAddress nextBlock resolved heard takeOne consume advanced interpolated sounded voiceStep writeAt-log ticksAt readingAt byMark readAt decodeFrom decode total measureOf play playAll runMeasured runWith without sameRecord sameRecords alike quiet joinedBy joinedOver members voicesIn listed picked refusalOf reworkOf
 seen =
     record {
       members = refl;
