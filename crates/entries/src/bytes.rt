@@ -3,13 +3,17 @@
 ghost use Prim.Native.Nat.{_<_};
 use crate::lines::hex;
 use crate::lines::number;
-use crate::lines::say;
+use crate::parts::Part;
+use crate::parts::with;
+use crate::readings;
 use crate::same::letter;
 use dsp::Adsr;
+use dsp::Answer;
 use dsp::Brr;
 use dsp::Dsp;
 use dsp::EnvelopePhase;
 use dsp::Voice;
+use report::lines::say;
 
 // A loop pointer for each directory entry that fields and bytes could name: DIR $12 or $34, SRCN 5 or 9.
 fn pointers() -> [u8; 65536] {
@@ -73,7 +77,12 @@ fn ticked(name: &[u8], d: Dsp, j: usize)
     requires { ⌜ j < 8 ⌝ }
 {
     let mut ram = pointers();
-    let a = d.step(&mut ram);
+    told(name, d.step(&mut ram), j);
+}
+
+fn told(name: &[u8], a: Answer, j: usize)
+    requires { ⌜ j < 8 ⌝ }
+{
     let e = a.dsp;
     let v = e.voices[j];
     say(name);
@@ -122,27 +131,25 @@ fn loop_jump() {
     ticked(b"loop jump", with_playing(d, 3), 3);
 }
 
+fn read(words: &[u8], d: Dsp, register: u8) {
+    hex(words, d.read_reg(register) as u64);
+}
+
 // `read_reg` gives the byte, `edl` and `pmon` the field; a read masks its index as a write does.
 fn reads() {
-    let mut d = Dsp::new();
-    d.flg = 0x1F;
-    d.pmon = 0xFE;
-    d.edl = 15;
-    d.registers[0x2D] = 0x01;
-    d.registers[0x7D] = 0x30;
-    hex(b"FLG: read_reg $", d.read_reg(0x6C) as u64);
-    hex(b" $", d.read_reg(0xEC) as u64);
-    hex(b"\nPMON: read_reg $", d.read_reg(0x2D) as u64);
+    let d = readings::differing(0x1F, 0xE0);
+    read(b"FLG: read_reg $", d, 0x6C);
+    read(b" $", d, 0xEC);
+    read(b"\nPMON: read_reg $", d, 0x2D);
     hex(b" pmon $", d.pmon() as u64);
-    hex(b"\nEDL: read_reg $", d.read_reg(0x7D) as u64);
+    read(b"\nEDL: read_reg $", d, 0x7D);
     hex(b" edl $", d.edl() as u64);
     say(b"\n");
 }
 
 // A write of one half of the pitch keeps the field's other half, and not the byte's.
 fn pitch() {
-    let mut d = Dsp::new();
-    d.voices[1].pitch = 0x1234;
+    let mut d = with(Part::Pitch, 1, 0x1234);
     d.registers[0x13] = 0x3F;
     let a = d.write_reg(0x12, 0x56);
     let e = a.dsp;

@@ -2,10 +2,11 @@
 ghost use Prim.Native.Nat.{_≤_};
 use crate::lines::hex;
 use crate::lines::number;
-use crate::lines::say;
 use crate::lines::verdict;
 use crate::same::same_record;
+use dsp::Answer;
 use dsp::Dsp;
+use report::lines::say;
 
 const RAM_SIZE: usize = 65536;
 
@@ -35,12 +36,20 @@ pub fn untouched(ram: &[u8]) -> bool {
     same
 }
 
-fn stepped_on(d: Dsp, ram: &mut [u8]) {
-    let a = d.step(ram);
+// Whether lent bytes are as before.
+pub fn kept(words: &[u8], bytes: &[u8]) {
+    verdict(words, untouched(bytes));
+}
+
+fn answered(words: &[u8], d: Dsp, a: Answer) {
     let e = a.dsp;
-    number(b" step ", a.refusal as u64);
+    number(words, a.refusal as u64);
     verdict(b" record", same_record(d, e));
-    verdict(b" RAM", untouched(ram));
+}
+
+fn stepped_on(d: Dsp, ram: &mut [u8]) {
+    answered(b" step ", d, d.step(ram));
+    kept(b" RAM", ram);
 }
 
 // A tick on n bytes, which may be one more than RAM has.
@@ -51,21 +60,14 @@ pub fn stepped(d: Dsp, n: usize)
     stepped_on(d, &mut ram[..n]);
 }
 
+// A write by value, and the same on the record of a local that is lent.
 fn written(d: Dsp) {
     let a = d.write_reg(0x0C, 0x7F);
+    let b = lent::write_owned(d, 0x0C, 0x7F);
     let e = a.dsp;
-    number(b", write_reg ", a.refusal as u64);
-    verdict(b" record", same_record(d, e));
-}
-
-// The same write on the record of a local that is lent.
-fn written_lent(d: Dsp) {
-    let a = lent::write_owned(d, 0x0C, 0x7F);
-    let e = a.dsp;
-    let b = d.write_reg(0x0C, 0x7F);
     let f = b.dsp;
-    number(b", write_reg_lent ", a.refusal as u64);
-    verdict(b" record", same_record(d, e));
+    answered(b", write_reg ", d, a);
+    answered(b", write_reg_lent ", d, b);
     verdict(b" and by value", same_record(e, f));
 }
 
@@ -86,7 +88,6 @@ fn rendered(d: Dsp) {
 pub fn called(d: Dsp) {
     stepped(d, RAM_SIZE);
     written(d);
-    written_lent(d);
     rendered(d);
     say(b"\n");
 }

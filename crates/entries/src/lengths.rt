@@ -3,10 +3,10 @@ ghost use Prim.Native.Nat.{_≤_};
 use crate::calls::ready;
 use crate::calls::stepped;
 use crate::lines::number;
-use crate::lines::say;
 use crate::parts::Part;
 use crate::parts::with;
 use dsp::Dsp;
+use report::lines::say;
 
 fn length(words: &[u8], d: Dsp, n: usize)
     requires { ⌜ n ≤ 65537 ⌝ }

@@ -2,9 +2,9 @@
 ghost use Prim.Native.Nat.{_<_};
 use crate::calls::called;
 use crate::lines::hex;
-use crate::lines::say;
 use crate::parts::Part;
 use crate::parts::with;
+use report::lines::say;
 
 fn one(name: &[u8], part: Part, j: usize, value: u16)
     requires { ⌜ j < 8 ⌝ }

@@ -1,9 +1,6 @@
 // What the lines are made of.
 use libc::STDOUT_FILENO;
-
-pub fn say(words: &[u8]) {
-    io::write_all(STDOUT_FILENO, words);
-}
+use report::lines::say;
 
 pub fn number(words: &[u8], n: u64) {
     say(words);

@@ -1,16 +1,15 @@
 // A run from a record in which fields and bytes differ: a reading is the byte, a tick goes by the field.
 use crate::calls::FILL;
-use crate::calls::untouched;
+use crate::calls::kept;
 use crate::lines::hex;
 use crate::lines::number;
-use crate::lines::say;
-use crate::lines::verdict;
 use dsp::Dsp;
+use report::lines::say;
 use sitting::Ran;
 use sitting::run;
 
 // The bytes of PMON and EDL, which ticks leave alone, are 1 and $30.
-fn differing(flg: u8, byte: u8) -> Dsp {
+pub fn differing(flg: u8, byte: u8) -> Dsp {
     let mut d = Dsp::new();
     d.flg = flg;
     d.pmon = 0xFE;
@@ -37,7 +36,7 @@ fn values(readings: &[u8]) {
 fn told(r: Ran, ram: &[u8], readings: &[u8]) {
     let d = r.dsp;
     number(b": ", r.refusal as u64);
-    verdict(b" RAM", untouched(ram));
+    kept(b" RAM", ram);
     values(readings);
     hex(b" pmon $", d.pmon() as u64);
     hex(b" edl $", d.edl() as u64);

@@ -1,4 +1,5 @@
 // Whether two records, or two slices, are the same.
+ghost use Prim.Native.Nat.{_<_};
 use dsp::Adsr;
 use dsp::Brr;
 use dsp::Dsp;
@@ -57,7 +58,13 @@ fn same_brr(a: Brr, b: Brr) -> bool {
     same
 }
 
+fn same_four(a: [i16; 4], b: [i16; 4]) -> bool {
+    (a[0] == b[0]) & (a[1] == b[1]) & (a[2] == b[2]) & (a[3] == b[3])
+}
+
 fn same_voice(a: Voice, b: Voice) -> bool {
+    let x = a.history;
+    let y = b.history;
     let d = a.adsr;
     let e = b.adsr;
     let p = a.brr;
@@ -69,27 +76,48 @@ fn same_voice(a: Voice, b: Voice) -> bool {
         & (a.key_on == b.key_on)
         & (a.pitch_counter == b.pitch_counter)
         & (a.current_sample == b.current_sample)
-        & (a.history[0] == b.history[0])
-        & (a.history[1] == b.history[1])
-        & (a.history[2] == b.history[2])
-        & (a.history[3] == b.history[3])
+        & same_four(x, y)
         & same_adsr(d, e)
         & same_brr(p, q)
 }
 
-// What the record has eight of.
+// What the record has eight of, at one of its places.
+struct Eighth {
+    voice: Voice,
+    delay: u8,
+    tap: i8,
+    left: i16,
+    right: i16,
+}
+
+fn at(d: Dsp, i: usize) -> Eighth
+    requires { ⌜ i < 8 ⌝ }
+{
+    let voice = d.voices[i];
+    Eighth {
+        voice,
+        delay: d.kon_delay[i],
+        tap: d.fir_coeff[i],
+        left: d.fir_history_l[i],
+        right: d.fir_history_r[i],
+    }
+}
+
+fn same_eighth(a: Eighth, b: Eighth) -> bool {
+    let v = a.voice;
+    let w = b.voice;
+    same_voice(v, w)
+        & (a.delay == b.delay)
+        & (a.tap == b.tap)
+        & (a.left == b.left)
+        & (a.right == b.right)
+}
+
 fn same_eight(a: Dsp, b: Dsp) -> bool {
     let mut same = true;
     let mut i: usize = 0;
     while i < 8 {
-        let v = a.voices[i];
-        let w = b.voices[i];
-        same = same
-            & same_voice(v, w)
-            & (a.kon_delay[i] == b.kon_delay[i])
-            & (a.fir_coeff[i] == b.fir_coeff[i])
-            & (a.fir_history_l[i] == b.fir_history_l[i])
-            & (a.fir_history_r[i] == b.fir_history_r[i]);
+        same = same & same_eighth(at(a, i), at(b, i));
         i += 1;
     }
     same

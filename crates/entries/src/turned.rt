@@ -2,7 +2,6 @@
 // and RAM.
 ghost use mathlib.Core.Path.{_≡_};
 ghost use lib.ListN.{length};
-use crate::lines::say;
 use crate::lines::verdict;
 use crate::same::same_bytes;
 use crate::same::same_fields;
@@ -11,6 +10,7 @@ use dsp::Dsp;
 use dsp::EnvelopePhase;
 use dsp::Sample;
 use dsp::Voice;
+use report::lines::say;
 
 const TICKS: u32 = 64;
 
@@ -163,10 +163,14 @@ fn compared(name: &[u8], a: Dsp, b: Dsp) {
     let mut ram = looping();
     let mut other = looping();
     let p = run(a, b, &mut ram, &mut other);
+    told(name, p, same_bytes(&ram, &other));
+}
+
+fn told(name: &[u8], p: Pair, ram: bool) {
     say(name);
     verdict(b" fields", p.fields);
     verdict(b" samples", p.samples);
-    verdict(b" RAM", same_bytes(&ram, &other));
+    verdict(b" RAM", ram);
     if p.heard {
         say(b" heard\n");
     } else {

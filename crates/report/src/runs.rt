@@ -111,7 +111,8 @@ pub fn run_cut(
     )
 }
 
-fn run_on(
+// By `run_new`, or from the record by `run`.
+pub fn run_on(
     of_new: bool,
     start: Dsp,
     ram: &mut [u8],

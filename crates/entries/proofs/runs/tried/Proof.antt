@@ -10,6 +10,7 @@ tried-spec =
     tie.close
     (tie.spec
     (λ c κs. search needs)
+    (λ c κs. search needs)
     (λ c. search needs)
     (λ c. sym (length-take-le _ _ (search needs)))
     (λ c. search needs)
