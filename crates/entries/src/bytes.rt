@@ -1,8 +1,7 @@
 // "Where a field and its register byte differ in a given record, a poll's KOFF, a loop jump's DIR and SRCN and
 // `read_reg` use the bytes, all else the fields".
 ghost use Prim.Native.Nat.{_<_};
-use crate::lines::hex;
-use crate::lines::number;
+use crate::lines::line;
 use crate::parts::Part;
 use crate::parts::with;
 use crate::readings;
@@ -61,35 +60,37 @@ fn with_playing(d: Dsp, j: usize) -> Dsp
     e
 }
 
-fn voice(v: Voice) {
-    let a = v.adsr;
-    let b = v.brr;
-    let phase = a.envelope_phase;
-    let text = [b' ', letter(phase)];
-    number(b" key_on ", v.key_on as u64);
-    say(&text);
-    hex(b" level $", a.envelope_level as u64);
-    hex(b" at $", b.addr as u64);
-}
-
 // Voice j after one tick.
 fn ticked(name: &[u8], d: Dsp, j: usize)
     requires { ⌜ j < 8 ⌝ }
 {
     let mut ram = pointers();
-    told(name, d.step(&mut ram), j);
+    told(name, tick(d, &mut ram), j);
+}
+
+// Behind a reference an array's length is its type's.
+fn tick(d: Dsp, ram: &mut [u8; 65536]) -> Answer {
+    d.step(ram)
 }
 
 fn told(name: &[u8], a: Answer, j: usize)
     requires { ⌜ j < 8 ⌝ }
 {
-    let e = a.dsp;
-    let v = e.voices[j];
+    let d = a.dsp;
+    let v = d.voices[j];
+    let e = v.adsr;
+    let b = v.brr;
+    let phase = e.envelope_phase;
+    let values = [
+        j as u64,
+        a.refusal as u64,
+        v.key_on as u64,
+        letter(phase) as u64,
+        e.envelope_level as u64,
+        b.addr as u64,
+    ];
     say(name);
-    number(b" voice ", j as u64);
-    number(b": step ", a.refusal as u64);
-    voice(v);
-    say(b"\n");
+    line(b" voice #: step # key_on # @ level $ at $\n", &values);
 }
 
 // A poll keys voice 1 off by the byte alone, and no other; a tick that polls nothing leaves it.
@@ -131,20 +132,21 @@ fn loop_jump() {
     ticked(b"loop jump", with_playing(d, 3), 3);
 }
 
-fn read(words: &[u8], d: Dsp, register: u8) {
-    hex(words, d.read_reg(register) as u64);
-}
-
 // `read_reg` gives the byte, `edl` and `pmon` the field; a read masks its index as a write does.
 fn reads() {
     let d = readings::differing(0x1F, 0xE0);
-    read(b"FLG: read_reg $", d, 0x6C);
-    read(b" $", d, 0xEC);
-    read(b"\nPMON: read_reg $", d, 0x2D);
-    hex(b" pmon $", d.pmon() as u64);
-    read(b"\nEDL: read_reg $", d, 0x7D);
-    hex(b" edl $", d.edl() as u64);
-    say(b"\n");
+    let values = [
+        d.read_reg(0x6C) as u64,
+        d.read_reg(0xEC) as u64,
+        d.read_reg(0x2D) as u64,
+        d.pmon() as u64,
+        d.read_reg(0x7D) as u64,
+        d.edl() as u64,
+    ];
+    line(
+        b"FLG: read_reg $ $\nPMON: read_reg $ pmon $\nEDL: read_reg $ edl $\n",
+        &values,
+    );
 }
 
 // A write of one half of the pitch keeps the field's other half, and not the byte's.
@@ -154,8 +156,8 @@ fn pitch() {
     let a = d.write_reg(0x12, 0x56);
     let e = a.dsp;
     let v = e.voices[1];
-    hex(b"PITCH low: pitch $", v.pitch as u64);
-    say(b"\n");
+    let values = [v.pitch as u64];
+    line(b"PITCH low: pitch $\n", &values);
 }
 
 pub fn all() {

@@ -1,12 +1,8 @@
 // One call of each entry, and what it left of what it was given.
 ghost use Prim.Native.Nat.{_≤_};
-use crate::lines::hex;
-use crate::lines::number;
-use crate::lines::verdict;
+use crate::lines::line;
 use crate::same::same_record;
-use dsp::Answer;
 use dsp::Dsp;
-use report::lines::say;
 
 const RAM_SIZE: usize = 65536;
 
@@ -36,20 +32,15 @@ pub fn untouched(ram: &[u8]) -> bool {
     same
 }
 
-// Whether lent bytes are as before.
-pub fn kept(words: &[u8], bytes: &[u8]) {
-    verdict(words, untouched(bytes));
-}
-
-fn answered(words: &[u8], d: Dsp, a: Answer) {
-    let e = a.dsp;
-    number(words, a.refusal as u64);
-    verdict(b" record", same_record(d, e));
-}
-
 fn stepped_on(d: Dsp, ram: &mut [u8]) {
-    answered(b" step ", d, d.step(ram));
-    kept(b" RAM", ram);
+    let a = d.step(ram);
+    let e = a.dsp;
+    let values = [
+        a.refusal as u64,
+        same_record(d, e) as u64,
+        untouched(ram) as u64,
+    ];
+    line(b" step # record ? RAM ?", &values);
 }
 
 // A tick on n bytes, which may be one more than RAM has.
@@ -66,28 +57,32 @@ fn written(d: Dsp) {
     let b = lent::write_owned(d, 0x0C, 0x7F);
     let e = a.dsp;
     let f = b.dsp;
-    answered(b", write_reg ", d, a);
-    answered(b", write_reg_lent ", d, b);
-    verdict(b" and by value", same_record(e, f));
+    let values = [
+        a.refusal as u64,
+        same_record(d, e) as u64,
+        b.refusal as u64,
+        same_record(d, f) as u64,
+        same_record(e, f) as u64,
+    ];
+    line(
+        b", write_reg # record ?, write_reg_lent # record ? and by value ?",
+        &values,
+    );
 }
 
 // 16 bits, two's complement.
-fn sample(x: i16) {
-    let high = numbers::high(x) as u64;
-    let low = numbers::low(x) as u64;
-    hex(b" $", high * 256 + low);
+fn bits(x: i16) -> u64 {
+    numbers::high(x) as u64 * 256 + numbers::low(x) as u64
 }
 
 fn rendered(d: Dsp) {
     let s = d.render_audio_single();
-    number(b", render_audio_single ", s.refusal as u64);
-    sample(s.left);
-    sample(s.right);
+    let values = [s.refusal as u64, bits(s.left), bits(s.right)];
+    line(b", render_audio_single # $ $\n", &values);
 }
 
 pub fn called(d: Dsp) {
     stepped(d, RAM_SIZE);
     written(d);
     rendered(d);
-    say(b"\n");
 }

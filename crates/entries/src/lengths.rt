@@ -2,7 +2,7 @@
 ghost use Prim.Native.Nat.{_≤_};
 use crate::calls::ready;
 use crate::calls::stepped;
-use crate::lines::number;
+use crate::lines::line;
 use crate::parts::Part;
 use crate::parts::with;
 use dsp::Dsp;
@@ -11,7 +11,8 @@ use report::lines::say;
 fn length(words: &[u8], d: Dsp, n: usize)
     requires { ⌜ n ≤ 65537 ⌝ }
 {
-    number(b"RAM of ", n as u64);
+    let values = [n as u64];
+    line(b"RAM of #", &values);
     say(words);
     stepped(d, n);
     say(b"\n");

@@ -1,7 +1,7 @@
 // "A fit record: ..": each clause at its limit, which no entry refuses, and one past it, which each refuses by 2.
 ghost use Prim.Native.Nat.{_<_};
 use crate::calls::called;
-use crate::lines::hex;
+use crate::lines::line;
 use crate::parts::Part;
 use crate::parts::with;
 use report::lines::say;
@@ -10,8 +10,8 @@ fn one(name: &[u8], part: Part, j: usize, value: u16)
     requires { ⌜ j < 8 ⌝ }
 {
     say(name);
-    hex(b" $", value as u64);
-    say(b":");
+    let values = [value as u64];
+    line(b" $:", &values);
     called(with(part, j, value));
 }
 

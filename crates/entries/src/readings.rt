@@ -1,8 +1,7 @@
 // A run from a record in which fields and bytes differ: a reading is the byte, a tick goes by the field.
 use crate::calls::FILL;
-use crate::calls::kept;
-use crate::lines::hex;
-use crate::lines::number;
+use crate::calls::untouched;
+use crate::lines::line;
 use dsp::Dsp;
 use report::lines::say;
 use sitting::Ran;
@@ -21,11 +20,11 @@ pub fn differing(flg: u8, byte: u8) -> Dsp {
 }
 
 fn value(byte: u8) {
-    hex(b" $", byte as u64);
+    let values = [byte as u64];
+    line(b" $", &values);
 }
 
 fn values(readings: &[u8]) {
-    say(b" readings");
     let mut i: usize = 0;
     while i < readings.len() {
         value(readings[i]);
@@ -35,12 +34,11 @@ fn values(readings: &[u8]) {
 
 fn told(r: Ran, ram: &[u8], readings: &[u8]) {
     let d = r.dsp;
-    number(b": ", r.refusal as u64);
-    kept(b" RAM", ram);
+    let before = [r.refusal as u64, untouched(ram) as u64];
+    line(b": # RAM ? readings", &before);
     values(readings);
-    hex(b" pmon $", d.pmon() as u64);
-    hex(b" edl $", d.edl() as u64);
-    say(b"\n");
+    let behind = [d.pmon() as u64, d.edl() as u64];
+    line(b" pmon $ edl $\n", &behind);
 }
 
 // FLG, PMON and EDL are read before and behind a tick.

@@ -4,10 +4,9 @@
 ghost use mathlib.Core.Path.{_≡_};
 ghost use Prim.Native.Nat.{_≤_};
 use crate::calls::FILL;
-use crate::calls::kept;
 use crate::calls::ready;
-use crate::lines::number;
-use crate::lines::verdict;
+use crate::calls::untouched;
+use crate::lines::line;
 use crate::parts::Part;
 use crate::parts::with;
 use crate::same::same_record;
@@ -57,10 +56,23 @@ fn named(of_new: bool, name: &[u8]) {
 
 fn answered(d: Dsp, r: Ran) {
     let e = r.dsp;
-    number(b": ", r.refusal as u64);
-    number(b" ticks ", r.ticks as u64);
-    number(b" readings ", r.readings as u64);
-    verdict(b" record", same_record(d, e));
+    let values = [
+        r.refusal as u64,
+        r.ticks as u64,
+        r.readings as u64,
+        same_record(d, e) as u64,
+    ];
+    line(b": # ticks # readings # record ?", &values);
+}
+
+fn kept(ram: &[u8], pcm: &[u8], sheet: &[u8], readings: &[u8]) {
+    let values = [
+        untouched(ram) as u64,
+        untouched(pcm) as u64,
+        untouched(sheet) as u64,
+        untouched(readings) as u64,
+    ];
+    line(b" RAM ? PCM ? sheet ? readings ?\n", &values);
 }
 
 fn called(
@@ -72,13 +84,8 @@ fn called(
     sheet: &mut [u8],
     readings: &mut [u8],
 ) {
-    let r = run_on(of_new, d, ram, log, pcm, sheet, readings);
-    answered(d, r);
-    kept(b" RAM", ram);
-    kept(b" PCM", pcm);
-    kept(b" sheet", sheet);
-    kept(b" readings", readings);
-    say(b"\n");
+    answered(d, run_on(of_new, d, ram, log, pcm, sheet, readings));
+    kept(ram, pcm, sheet, readings);
 }
 
 // One call, on bytes that are all alike before it.

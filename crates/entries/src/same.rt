@@ -44,15 +44,22 @@ fn same_adsr(a: Adsr, b: Adsr) -> bool {
 }
 
 fn same_brr(a: Brr, b: Brr) -> bool {
-    let mut same = (a.addr == b.addr)
+    let x = a.sample_buffer;
+    let y = b.sample_buffer;
+    (a.addr == b.addr)
         & (a.nibble_idx == b.nibble_idx)
         & (a.prev1 == b.prev1)
         & (a.prev2 == b.prev2)
         & (a.block_end == b.block_end)
-        & (a.buffer_fill == b.buffer_fill);
+        & (a.buffer_fill == b.buffer_fill)
+        & same_sixteen(x, y)
+}
+
+fn same_sixteen(a: [i16; 16], b: [i16; 16]) -> bool {
+    let mut same = true;
     let mut i: usize = 0;
     while i < 16 {
-        same = same & (a.sample_buffer[i] == b.sample_buffer[i]);
+        same = same & (a[i] == b[i]);
         i += 1;
     }
     same

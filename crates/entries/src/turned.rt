@@ -2,7 +2,7 @@
 // and RAM.
 ghost use mathlib.Core.Path.{_≡_};
 ghost use lib.ListN.{length};
-use crate::lines::verdict;
+use crate::lines::line;
 use crate::same::same_bytes;
 use crate::same::same_fields;
 use dsp::Adsr;
@@ -168,9 +168,8 @@ fn compared(name: &[u8], a: Dsp, b: Dsp) {
 
 fn told(name: &[u8], p: Pair, ram: bool) {
     say(name);
-    verdict(b" fields", p.fields);
-    verdict(b" samples", p.samples);
-    verdict(b" RAM", ram);
+    let values = [p.fields as u64, p.samples as u64, ram as u64];
+    line(b" fields ? samples ? RAM ?", &values);
     if p.heard {
         say(b" heard\n");
     } else {

@@ -1,8 +1,8 @@
 -- The measure is the samples that are left.
 use borrow.Author.Needs.{needs}
 use Prim.Native.Nat.{_-_, _≤_}
-use Rattle.entries.proofs.same.same_brr.Statement.{statement}
-use Rattle.entries.proofs.same.same_brr.Tie as tie
+use Rattle.entries.proofs.same.same_sixteen.Statement.{statement}
+use Rattle.entries.proofs.same.same_sixteen.Tie as tie
 
 abbrev Inv-loop : tie.InvT-loop
 Inv-loop a b same₀ i₀ same i = i ≤ 16
@@ -10,8 +10,8 @@ Inv-loop a b same₀ i₀ same i = i ≤ 16
 abbrev μ-loop : tie.MeasureT-loop
 μ-loop a b same₀ i₀ same i = 16 - i
 
-pub same-brr-spec : {M : Type 1} → statement M
-same-brr-spec =
+pub same-sixteen-spec : {M : Type 1} → statement M
+same-sixteen-spec =
     tie.close
     (tie.spec
     Inv-loop
