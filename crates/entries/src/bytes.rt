@@ -65,12 +65,7 @@ fn ticked(name: &[u8], d: Dsp, j: usize)
     requires { ⌜ j < 8 ⌝ }
 {
     let mut ram = pointers();
-    told(name, tick(d, &mut ram), j);
-}
-
-// Behind a reference an array's length is its type's.
-fn tick(d: Dsp, ram: &mut [u8; 65536]) -> Answer {
-    d.step(ram)
+    told(name, d.step(&mut ram), j);
 }
 
 fn told(name: &[u8], a: Answer, j: usize)
