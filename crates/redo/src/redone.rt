@@ -7,7 +7,8 @@ use report::digest::EMPTY;
 use report::digest::with_bytes;
 use report::digest::with_registers;
 use report::lines;
-use report::runs::least;
+use report::runs::Room;
+use report::runs::room_for;
 use report::runs::run_cut;
 use report::runs::tell;
 use rework::Reworked;
@@ -173,13 +174,13 @@ fn reworked(
     readings: &mut [u8],
 ) -> Dsp {
     let m = measure(new);
-    let ticks = m.ticks as usize;
-    let p = least(resized(ticks * 4, asked.lent, SHORT_PCM), pcm.len());
-    let s = least(resized(ticks * 36, asked.lent, SHORT_SHEET), sheet.len());
-    let q = least(
-        resized(m.readings as usize, asked.lent, SHORT_READINGS),
-        readings.len(),
-    );
+    let e = room_for(m.ticks, m.readings);
+    let lent = Room {
+        pcm: resized(e.pcm, asked.lent, SHORT_PCM),
+        sheet: resized(e.sheet, asked.lent, SHORT_SHEET),
+        readings: resized(e.readings, asked.lent, SHORT_READINGS),
+    };
+    let n = lent.within(pcm.len(), sheet.len(), readings.len());
     rework_on(
         asked.named,
         of_new,
@@ -188,9 +189,9 @@ fn reworked(
         ram,
         old,
         new,
-        &mut sheet[..s],
-        &mut pcm[..p],
-        &mut readings[..q],
+        &mut sheet[..n.sheet],
+        &mut pcm[..n.pcm],
+        &mut readings[..n.readings],
     )
 }
 

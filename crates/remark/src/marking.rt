@@ -5,6 +5,7 @@ use dsp::Dsp;
 use log::measure;
 use report::runs::least;
 use report::runs::registers_read;
+use report::runs::room_for;
 use report::runs::run_cut;
 use rework::Reworked;
 use rework::rework;
@@ -99,10 +100,7 @@ fn rework_cut(
     readings: &mut [u8],
 ) -> Reworked {
     let m = measure(new);
-    let ticks = m.ticks as usize;
-    let p = least(ticks * 4, pcm.len());
-    let s = least(ticks * 36, sheet.len());
-    let q = least(m.readings as usize, readings.len());
+    let n = room_for(m.ticks, m.readings).within(pcm.len(), sheet.len(), readings.len());
     rework(
         named,
         Dsp::new(),
@@ -110,9 +108,9 @@ fn rework_cut(
         ram,
         old,
         new,
-        &mut sheet[..s],
-        &mut pcm[..p],
-        &mut readings[..q],
+        &mut sheet[..n.sheet],
+        &mut pcm[..n.pcm],
+        &mut readings[..n.readings],
     )
 }
 

@@ -1,5 +1,5 @@
 // A log run whole, with slices exactly as long as it needs, and what that gives.
-ghost use Prim.Native.Nat.{_≤_};
+ghost use Prim.Native.Nat.{_≤_, _<_};
 ghost use Rattle.io.specs.Counts.{Counts};
 use crate::digest::EMPTY;
 use crate::digest::with_bytes;
@@ -14,10 +14,42 @@ use sitting::Ran;
 use sitting::run;
 use sitting::run_new;
 
+// How many bytes of each slice are lent.
+pub struct Room {
+    pub pcm: usize,
+    pub sheet: usize,
+    pub readings: usize,
+}
+
+// Four bytes of PCM and 36 of sheet a tick, one byte a reading.
+pub fn room_for(ticks: u32, readings: u32) -> Room
+    ensures { λ r. ⌜ (r .pcm < 0x10000000000) × (r .sheet < 0x10000000000) × (r .readings < 0x10000000000) ⌝ }
+{
+    let n = ticks as usize;
+    Room {
+        pcm: n * 4,
+        sheet: n * 36,
+        readings: readings as usize,
+    }
+}
+
 pub fn least(a: usize, b: usize) -> usize
     ensures { λ r. ⌜ (r ≤ a) × (r ≤ b) ⌝ }
 {
     if a < b { a } else { b }
+}
+
+impl Room {
+    // No more than there is.
+    pub fn within(self, pcm: usize, sheet: usize, readings: usize) -> Room
+        ensures { λ r. ⌜ (r .pcm ≤ pcm) × (r .sheet ≤ sheet) × (r .readings ≤ readings) ⌝ }
+    {
+        Room {
+            pcm: least(self.pcm, pcm),
+            sheet: least(self.sheet, sheet),
+            readings: least(self.readings, readings),
+        }
+    }
 }
 
 // What a run left, and its refusal or 0.
@@ -96,18 +128,15 @@ pub fn run_cut(
     readings: &mut [u8],
 ) -> Ran {
     let m = measure(log);
-    let ticks = m.ticks as usize;
-    let p = least(ticks * 4, pcm.len());
-    let s = least(ticks * 36, sheet.len());
-    let q = least(m.readings as usize, readings.len());
+    let n = room_for(m.ticks, m.readings).within(pcm.len(), sheet.len(), readings.len());
     run_on(
         of_new,
         start,
         ram,
         log,
-        &mut pcm[..p],
-        &mut sheet[..s],
-        &mut readings[..q],
+        &mut pcm[..n.pcm],
+        &mut sheet[..n.sheet],
+        &mut readings[..n.readings],
     )
 }
 
@@ -129,11 +158,15 @@ pub fn run_on(
 
 // Of what was lent, what a run with such an answer was lent and has filled.
 pub fn tell(r: Ran, log: &[u8], ram: &[u8], pcm: &[u8], sheet: &[u8], readings: &[u8]) -> Left {
-    let ticks = r.ticks as usize;
-    let p = least(ticks * 4, pcm.len());
-    let s = least(ticks * 36, sheet.len());
-    let q = least(r.readings as usize, readings.len());
-    tell_cut(r, log, ram, &pcm[..p], &sheet[..s], &readings[..q])
+    let n = room_for(r.ticks, r.readings).within(pcm.len(), sheet.len(), readings.len());
+    tell_cut(
+        r,
+        log,
+        ram,
+        &pcm[..n.pcm],
+        &sheet[..n.sheet],
+        &readings[..n.readings],
+    )
 }
 
 fn tell_cut(r: Ran, log: &[u8], ram: &[u8], pcm: &[u8], sheet: &[u8], readings: &[u8]) -> Left {
