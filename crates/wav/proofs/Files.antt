@@ -1,17 +1,19 @@
 -- What `isSound` and `isWav` say, in numbers and rows.
-use mathlib.Core.Bool.{Bool, true, false, _&&_}
+use mathlib.Core.Bool.{Bool, true, false, not, _&&_}
 use mathlib.Core.List.{List, _++_}
 use mathlib.Core.Path.{_≡_, refl, sym, ap, _∙_, subst⁻¹}
 use Prim.Native.Nat.{ℕ, _+_, _-_, _/_, _%_, _≤_, _<_}
 use native.Mathlib.Omega.{arith}
+use lib.Dec.{lit≤}
 use lib.ListN.{length, take, drop, length-append, length-drop, take-append-drop}
 use lib.Seq.{length-take-le, take-all}
 use borrow.Author.Tests.{eqb-true, leb-true, eq-eqb, ne-eqb}
 use borrow.Rule.Slice.PartMut.{putMid, midOf}
 use Rattle.numbers.specs.Bytes.{copied}
 use Rattle.numbers.specs.Choice.{_≤?_, _=?_}
+use Rattle.numbers.proofs.Choice.{chosen}
 use Rattle.numbers.proofs.Parts.{Written, sized, part-put, all-written, copied-whole, mid-length}
-use Rattle.wav.specs.Wav.{headerOf, framesIn, isSound, headerSize, wavOf, same, samplesIn, isWav, dataSize, writeOf, refusedBy, framesOf, readOf}
+use Rattle.wav.specs.Wav.{headerOf, framesIn, isSound, headerSize, wavOf, same, samplesIn, isWav, dataSize, writeOf, refusedBy, framesOf, Restored, readOf}
 use Rattle.wav.specs.declared.Frames.{Frames}
 use Rattle.wav.proofs.Rows.{both, same-is, same-before}
 
@@ -113,14 +115,16 @@ module _ (file : List ℕ) {found : Frames} (is : found ≡ framesOf file) where
   long z = let l = wav-size file (unrefused z) in omega arith
 
   -- its frames are those of what stands behind the header
-  counted : found .refusal ≡ 0 → found .frames ≡ framesIn (length (samplesIn file))
-  counted z = ap (λ (f : Frames). f .frames) (is ∙ frames-are file (unrefused z)) ∙ ap framesIn (sym (length-drop headerSize file))
+  counted : isWav file ≡ true → found .frames ≡ framesIn (length (samplesIn file))
+  counted e = ap (λ (f : Frames). f .frames) (is ∙ frames-are file e) ∙ ap framesIn (sym (length-drop headerSize file))
 
-  pub few : found .refusal ≡ 0 → found .frames ≤ 32000
-  few z = subst⁻¹ (λ (n : ℕ). n ≤ 32000) (counted z) (sound-few _ (wav-is file (unrefused z) .0))
+  pub few : found .frames ≤ 32000
+  few =
+      tested (isWav file) (λ e. subst⁻¹ (λ (f : Frames). f .frames ≤ 32000) (is ∙ not-frames file e) (lit≤ tt))
+      (λ e. subst⁻¹ (λ (n : ℕ). n ≤ 32000) (counted e) (sound-few _ (wav-is file e .0)))
 
   whole : found .refusal ≡ 0 → dataSize (found .frames) ≡ length (samplesIn file)
-  whole z = ap dataSize (counted z) ∙ sound-whole _ (wav-is file (unrefused z) .0)
+  whole z = ap dataSize (counted (unrefused z)) ∙ sound-whole _ (wav-is file (unrefused z) .0)
 
   module _ (pcm : List ℕ) where
     pub unread : (found .refusal ≡ 0 → ⊥) → record { frames = found; pcm = pcm } ≡ readOf file pcm
@@ -140,3 +144,14 @@ module _ (file : List ℕ) {found : Frames} (is : found ≡ framesOf file) where
         let t : take (length file - headerSize) (samplesIn file) ≡ samplesIn file = take-all (length file - headerSize) (samplesIn file) (omega arith) in
         let b = e ∙ ap (λ (x : List ℕ). copied x pcm) t ∙ copied-whole (samplesIn file) pcm (h ∙ whole z) in
         rw (← is, eq-eqb _ _ z, eq-eqb _ _ h) (ap (λ (x : List ℕ). record { frames = found; pcm = x }) b)
+
+abbrev Few : Restored → Type 0
+Few left = left .frames .frames ≤ 32000
+
+-- a reader tells of no more
+pub read-few : (file pcm : List ℕ) {left : Restored} → left ≡ readOf file pcm → left .frames .frames ≤ 32000
+unfolding readOf
+read-few file pcm e =
+    let n = few file {found = framesOf file} refl in
+    subst⁻¹ Few e
+    (chosen Few (not (framesOf file .refusal =? 0)) n (chosen Few (not (length pcm =? dataSize (framesOf file .frames))) (lit≤ tt) n))

@@ -23,7 +23,7 @@ read-wav-spec =
     (tie.spec
     (λ c κs. search needs)
     (λ c. let a = c .before .before .before .before .before .args in unread (a .file .now) (c .before .before .wav-frames .ensures) (a .pcm .now) (c .if1 .taken))
-    (λ c. record { fits = let n = few (c .before .before .before .before .before .before .args .file .now) (c .before .before .before .wav-frames .ensures) (c .before .if1 .left) in omega arith })
+    (λ c. record { fits = let n = few (c .before .before .before .before .before .before .args .file .now) (c .before .before .before .wav-frames .ensures) in omega arith })
     (λ c. search needs)
     (λ c κs. search needs)
     returns-2
