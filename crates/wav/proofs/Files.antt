@@ -1,4 +1,4 @@
--- What `isSound` and `isWav` say, in numbers and rows.
+-- What `isSound` and `isWav` say, in numbers and rows; then the writer and the reader, outcome by outcome.
 use mathlib.Core.Bool.{Bool, true, false, not, _&&_}
 use mathlib.Core.List.{List, _++_}
 use mathlib.Core.Path.{_≡_, refl, sym, ap, _∙_, subst⁻¹}

@@ -3,3 +3,4 @@ pub mod Files
 pub mod Numbers
 pub mod Riff
 pub mod Rows
+pub mod Seen

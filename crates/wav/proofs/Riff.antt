@@ -1,6 +1,6 @@
--- The header's sizes are those of RIFF's chunks, and no number of it is cut. One header, byte by byte.
-use mathlib.Core.List.{[], _∷_, _++_}
-use mathlib.Core.Path.{_≡_, refl}
+-- The header's sizes are those of RIFF's chunks, and no number of it is cut.
+use mathlib.Core.List.{_++_}
+use mathlib.Core.Path.{_≡_}
 use Prim.Native.Nat.{zero, suc, _+_, _/_, _^_, _<_}
 use native.Mathlib.Nat.{pow-suc, pow-zero, div-lt-iff-lt-mul}
 use native.Mathlib.Omega.{arith}
@@ -24,11 +24,3 @@ numbers-back (suc width) x h =
     let l : x / 0x100 < 0x100 ^ width = div-lt-iff-lt-mul {k = 0x100} {x = x} {y = 0x100 ^ width} (lit< tt) .1 (rw pow-suc at h) in
     let e = numbers-back width (x / 0x100) l in
     omega arith
-
--- a header of one frame: sizes 40 and 4
-pub of-one-frame : headerOf 1 ≡
-    0x52 ∷ 0x49 ∷ 0x46 ∷ 0x46 ∷ 0x28 ∷ 0x00 ∷ 0x00 ∷ 0x00 ∷ 0x57 ∷ 0x41 ∷ 0x56 ∷ 0x45 ∷ 0x66 ∷ 0x6D ∷ 0x74 ∷ 0x20
-    ∷ 0x10 ∷ 0x00 ∷ 0x00 ∷ 0x00 ∷ 0x01 ∷ 0x00 ∷ 0x02 ∷ 0x00 ∷ 0x00 ∷ 0x7D ∷ 0x00 ∷ 0x00 ∷ 0x00 ∷ 0xF4 ∷ 0x01 ∷ 0x00
-    ∷ 0x04 ∷ 0x00 ∷ 0x10 ∷ 0x00 ∷ 0x64 ∷ 0x61 ∷ 0x74 ∷ 0x61 ∷ 0x04 ∷ 0x00 ∷ 0x00 ∷ 0x00 ∷ []
-unfolding headerOf
-of-one-frame = refl

@@ -95,7 +95,7 @@ same (x ∷ xs) (y ∷ ys) = (x =? y) && same xs ys
 abbrev pub samplesIn : List ℕ → List ℕ
 samplesIn file = drop headerSize file
 
--- "of just this layout": the file of a sound, and of no other than the samples behind its header
+-- "a reader for just that layout": a file is of it that is the file of the samples behind its own header
 unfoldable pub isWav : List ℕ → Bool
 unfolding wavOf same
 isWav file = isSound (length (samplesIn file)) && same file (wavOf (samplesIn file))

@@ -20,7 +20,8 @@ const FRAMES_A_SECOND: u32 = 32000;
 
 const BITS_A_SAMPLE: u32 = 16;
 
-const BYTES_A_FRAME: u32 = 4;
+// A sample of each channel.
+const BYTES_A_FRAME: u32 = CHANNELS * BITS_A_SAMPLE / 8;
 
 // A file's frames; or its refusal, and no frames.
 pub struct Frames {
