@@ -1,5 +1,5 @@
 -- One header byte by byte, and files that are not of this layout, all computed.
-use mathlib.Core.Bool.{false}
+use mathlib.Core.Bool.{true, false}
 use mathlib.Core.List.{List, [], _∷_, _++_}
 use mathlib.Core.Path.{_≡_, refl}
 use Prim.Native.Nat.{ℕ, _+_}
@@ -21,9 +21,18 @@ frame = 0x34 ∷ 0x12 ∷ 0xFE ∷ 0xFF ∷ []
 abbrev put : ℕ → List ℕ → List ℕ
 put at bytes = take at (wavOf frame) ++ bytes ++ drop (at + length bytes) (wavOf frame)
 
+-- other samples are another sound
+pub other-samples : isWav (put 44 (0x35 ∷ [])) ≡ true
+unfolding isWav wavOf headerOf inBytes same
+other-samples = refl
+
 pub no-tail : isWav (wavOf frame ++ (0 ∷ [])) ≡ false
 unfolding isWav wavOf headerOf inBytes same
 no-tail = refl
+
+pub no-frame-behind : isWav (wavOf frame ++ frame) ≡ false
+unfolding isWav wavOf headerOf inBytes same
+no-frame-behind = refl
 
 pub no-other-first-size : isWav (put 4 (inBytes 4 (dataSize 1))) ≡ false
 unfolding isWav wavOf headerOf inBytes same
