@@ -29,7 +29,7 @@ module _ (s : ℕ) (start end : Dsp) (ram log₁ log₂ : List ℕ) where
       tested (λ (k : ℕ). k ≡ 0 → length ram ≡ 0x10000) (not (length ram =? 0x10000)) (λ _ e. absurd (omega arith)) (λ f _. eqb-true _ _ (not-false _ f))
 
   -- so that its copy over as many bytes is RAM
-  pub ram-copied : refusalOf s start end ram log₁ log₂ ≡ 0 → (blank : List ℕ) → length blank ≡ 0x10000 → copied ram blank ≡ ram
+  ram-copied : refusalOf s start end ram log₁ log₂ ≡ 0 → (blank : List ℕ) → length blank ≡ 0x10000 → copied ram blank ≡ ram
   ram-copied e blank l = copied-whole ram blank (l ∙ sym (ram-whole e))
 
   -- the run of the set, as far as it has come
