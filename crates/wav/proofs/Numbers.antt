@@ -1,7 +1,7 @@
--- Numbers in bytes, low byte first: how they are written byte by byte, how long they are, and that none of them is lost.
+-- Numbers in bytes, low byte first, as they are written byte by byte.
 use mathlib.Core.List.{List, [], _∷_, _++_, append-nil}
 use mathlib.Core.Path.{_≡_, refl, sym, ap, _∙_}
-use Prim.Native.Nat.{ℕ, zero, suc, _+_, _-_, _/_, _%_, _<_}
+use Prim.Native.Nat.{ℕ, suc, _+_, _-_, _/_, _%_, _<_}
 use native.Mathlib.Omega.{arith}
 use lib.ListN.{length, take, set}
 use lib.Seq.{append-snoc, take-all}
@@ -28,8 +28,3 @@ digits-all n i x rest to h l e =
     let d : n - i ≡ 0 = omega arith in
     let z : inBytes (n - i) rest ≡ [] = ap (λ (k : ℕ). inBytes k rest) d in
     sym ((λ j. take-all i to (omega arith) j ++ z j) ∙ append-nil to) ∙ e
-
-pub length-in-bytes : (width x : ℕ) → length (inBytes width x) ≡ width
-unfolding inBytes
-length-in-bytes zero x = refl
-length-in-bytes (suc width) x = ap suc (length-in-bytes width (x / 0x100))

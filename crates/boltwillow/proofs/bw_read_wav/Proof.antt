@@ -1,6 +1,5 @@
 -- What `read_wav` leaves, its refusal and frames in one number: 32,000 frames leave room for it.
 use borrow.Author.Needs.{needs}
-use mathlib.Core.List.{List}
 use mathlib.Core.Path.{ap, _∙_}
 use Prim.Native.Nat.{ℕ}
 use Rattle.wav.proofs.Files.{read-few}
