@@ -13,9 +13,11 @@
      7  a tick count of 0, or over 32,000 ticks in all
      8  no end record
      9  bytes behind the end record
-    10  PCM, sheet or readings aren't exactly as long as the log needs
+    10  PCM, sheet or readings aren't exactly as long as the log needs; of a sound file: the samples aren't whole frames or are over
+        32,000 of them, or what is lent is of another length than they need
     11  echo writing is on at some tick: the whole sitting has to be run
     12  the logs differ outside the named voices' own registers
+    13  not a sound file of just the layout that bw_write_wav writes
    (2 is a machine record that is unfit; none is passed here.) */
 #ifndef BOLTWILLOW_H
 #define BOLTWILLOW_H
@@ -28,6 +30,8 @@ extern "C" {
 #define BW_LOG_MOST 60000
 #define BW_PCM_A_TICK 4    /* left, right, 16 bits each, low byte first */
 #define BW_SHEET_A_TICK 36 /* four bytes a voice, then the echo's output */
+#define BW_FRAMES_MOST 32000
+#define BW_WAV_HEADER 44   /* then the samples: a frame is the PCM of a tick */
 
 /* 0, or why the log is refused: 3 to 9. */
 uint8_t bw_measure(const uint8_t *log, uint64_t log_size);
@@ -52,6 +56,19 @@ uint32_t bw_rework(uint8_t named, const uint8_t *ram, uint64_t ram_size, const u
 #define BW_REFUSAL(answer) ((uint8_t)((answer)&0xFF))
 #define BW_MEMBERS(answer) ((uint8_t)((answer) >> 8 & 0xFF))
 #define BW_COUNT(answer) ((uint8_t)((answer) >> 16 & 0xFF))
+
+/* A sitting's sound as a file: RIFF/WAVE, PCM, two channels, 16 bits, 32,000 frames a second. `pcm` is whole frames, 32,000 at most, as
+   bw_run and bw_rework leave them; `file` has BW_WAV_HEADER bytes more. No frames make a file too. Refuses 10. */
+uint8_t bw_write_wav(const uint8_t *pcm, uint64_t pcm_size, uint8_t *file, uint64_t file_size);
+
+/* The frames of a file of just that layout, so that a caller knows what to lend: 0 and the frames, or 13. */
+uint32_t bw_wav_frames(const uint8_t *file, uint64_t file_size);
+
+/* The samples of such a file; `pcm` has BW_PCM_A_TICK bytes a frame. Refuses 13, 10, in this order, and then answers no frames. */
+uint32_t bw_read_wav(const uint8_t *file, uint64_t file_size, uint8_t *pcm, uint64_t pcm_size);
+
+/* The answer of bw_wav_frames and bw_read_wav: BW_REFUSAL, and the frames. */
+#define BW_FRAMES(answer) ((uint32_t)((answer) >> 8))
 
 #ifdef __cplusplus
 }

@@ -1,6 +1,7 @@
 /* example OLD NEW RAM NAMED: two sittings by their logs, over the RAM of a file. Plays the old one, reworks it to the new one and says
-   which readings have to be marked again. NAMED has a bit for each voice whose own registers were changed: 8, or 0x08, for voice 3.
-   Status 1: refused. 2: bad words, or a file that can't be read. */
+   which readings have to be marked again. The sound of each is left as a file, old.wav and new.wav, and compared as it stands there.
+   NAMED has a bit for each voice whose own registers were changed: 8, or 0x08, for voice 3.
+   Status 1: refused. 2: bad words, or a file that can't be read or written. */
 #include "boltwillow.h"
 #include <stdio.h>
 #include <stdlib.h>
@@ -54,9 +55,10 @@ static const char *words(uint8_t refusal) {
     case 7: return "the log has a tick count of 0, or over 32,000 ticks";
     case 8: return "the log has no end record";
     case 9: return "bytes stand behind the log's end record";
-    case 10: return "a slice isn't as long as the log needs";
+    case 10: return "a slice isn't as long as it has to be";
     case 11: return "echo writing is on at some tick, so the whole sitting has to be marked again";
     case 12: return "the logs differ outside the named voices, so the whole sitting has to be marked again";
+    case 13: return "the file is not of this layout";
     default: return "unknown";
     }
 }
@@ -75,6 +77,26 @@ static void say_voices(const char *title, uint8_t set) {
             before = ", ";
         }
     printf("%s", set ? "" : " none");
+}
+
+/* The samples as a file. */
+static uint8_t save_sound(const char *name, slice pcm) {
+    slice wav = lent(BW_WAV_HEADER + pcm.size);
+    uint8_t refusal = bw_write_wav(pcm.bytes, pcm.size, wav.bytes, wav.size);
+    if (refusal) return refusal;
+    FILE *file = fopen(name, "wb");
+    if (!file || fwrite(wav.bytes, 1, wav.size, file) != wav.size || fclose(file)) {
+        fprintf(stderr, "example: cannot write %s\n", name);
+        exit(2);
+    }
+    return 0;
+}
+
+/* A file's samples. */
+static uint8_t load_sound(const char *name, slice *pcm) {
+    slice wav = load(name, BW_WAV_HEADER + BW_FRAMES_MOST * BW_PCM_A_TICK);
+    *pcm = lent((uint64_t)BW_FRAMES(bw_wav_frames(wav.bytes, wav.size)) * BW_PCM_A_TICK);
+    return BW_REFUSAL(bw_read_wav(wav.bytes, wav.size, pcm->bytes, pcm->size));
 }
 
 static void say_changes(room old, room new) {
@@ -114,6 +136,14 @@ int main(int count, char **word) {
     say_voices("Named voices", named);
     say_voices("\nWorked again", BW_MEMBERS(answer));
     printf(" (%d of 8)\n", BW_COUNT(answer));
+
+    /* What is compared is what the files hold. */
+    uint8_t filed = save_sound("old.wav", old.pcm);
+    if (!filed) filed = save_sound("new.wav", new.pcm);
+    if (!filed) filed = load_sound("old.wav", &old.pcm);
+    if (!filed) filed = load_sound("new.wav", &new.pcm);
+    if (filed) return refused("A sound", filed);
     say_changes(old, new);
+    printf("The sound of both is in old.wav and new.wav.\n");
     return 0;
 }

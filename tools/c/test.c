@@ -1,5 +1,6 @@
 /* test OLD NEW RAM NAMED: calls the library with two logs that are reworked and not refused. Holds the rework to a run of the new log,
-   and both calls to their refusals where a slice has another size: the number, and no byte written. Status 1 at the first failure. */
+   and both calls to their refusals where a slice has another size: the number, and no byte written. Then the sound of the new log is
+   written as a file and read back, and the same is held of these calls. Status 1 at the first failure. */
 #include "boltwillow.h"
 #include <stdio.h>
 #include <stdlib.h>
@@ -66,6 +67,49 @@ static void cut(int log) {
     }
 }
 
+#define WAV_MOST (BW_WAV_HEADER + (BW_FRAMES_MOST + 1) * BW_PCM_A_TICK + 1)
+static uint8_t source[WAV_MOST], place[WAV_MOST], found[WAV_MOST];
+
+/* Writes the first bytes of `source` to so many of `place`, or reads them; no byte of `place` behind those changes. */
+static uint32_t filed(int reads, uint64_t from, uint64_t to) {
+    memset(place, 0xA5, sizeof place);
+    memcpy(found, place, sizeof place);
+    uint32_t answer = reads ? bw_read_wav(source, from, place, to) : bw_write_wav(source, from, place, to);
+    hold(!memcmp(place + to, found + to, sizeof place - to), "a file's call wrote behind what it was lent");
+    return answer;
+}
+
+static void refuses_file(uint32_t refusal, int reads, uint64_t from, uint64_t to) {
+    hold(filed(reads, from, to) == refusal, "another refusal of a file");
+    hold(!memcmp(place, found, sizeof place), "a refused file's call wrote");
+}
+
+/* The file of so many frames of `pcm`, which comes back; a byte more or less of each is refused. */
+static void sounds(const uint8_t *pcm, uint64_t frames) {
+    uint64_t sound = frames * BW_PCM_A_TICK, file = BW_WAV_HEADER + sound;
+    memcpy(source, pcm, sound);
+    hold(filed(0, sound, file) == 0, "a sound is refused");
+    refuses_file(10, 0, sound, file - 1);
+    refuses_file(10, 0, sound, file + 1);
+    refuses_file(10, 0, sound + 1, file + 1);
+    if (sound) refuses_file(10, 0, sound - 1, file - 1);
+
+    filed(0, sound, file);
+    memcpy(source, place, file);
+    hold(bw_wav_frames(source, file) == frames << 8, "a file's frames");
+    hold(filed(1, file, sound) == frames << 8 && !memcmp(place, pcm, sound), "a file read back");
+    refuses_file(10, 1, file, sound + 1);
+    if (sound) refuses_file(10, 1, file, sound - 1);
+    refuses_file(13, 1, file - 1, sound);
+    refuses_file(13, 1, file + 1, sound);
+    for (int k = 0; k < BW_WAV_HEADER; k++) {
+        source[k]++;
+        hold(bw_wav_frames(source, file) == 13, "a changed header");
+        refuses_file(13, 1, file, sound);
+        source[k]--;
+    }
+}
+
 int main(int count, char **word) {
     if (count != 5) return 2;
     memset(given, 0xA5, sizeof given);
@@ -101,6 +145,12 @@ int main(int count, char **word) {
     size[RAM] = 0;
     refuses(1, run(OLD));
     refuses(1, rework());
+
+    sounds(second[PCM], ticks);
+    sounds(second[PCM], 1);
+    sounds(second[PCM], 0);
+    sounds(given[SHEET], BW_FRAMES_MOST);
+    refuses_file(10, 0, (BW_FRAMES_MOST + 1) * BW_PCM_A_TICK, BW_WAV_HEADER + (BW_FRAMES_MOST + 1) * BW_PCM_A_TICK);
     printf("c: %d checks pass\n", checks);
     return 0;
 }

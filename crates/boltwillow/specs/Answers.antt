@@ -1,8 +1,10 @@
--- What a caller in C gets of a run and of a rework: a number, and the lent slices.
+-- What a caller in C gets of a run, of a rework and of a sound file: a number, and the lent slices.
 use mathlib.Core.List.{List}
 use Prim.Native.Nat.{ℕ, _+_, _*_}
 use Rattle.sitting.specs.Run.{Outcome}
 use Rattle.rework.specs.Rework.{Left}
+use Rattle.wav.specs.Wav.{Restored as ReadBack}
+use Rattle.wav.specs.declared.Frames.{Frames}
 
 pub record Played : Type 0 where
   pub refusal : ℕ
@@ -26,3 +28,14 @@ answerOf x = x .refusal + 0x100 * x .members + 0x10000 * x .count
 
 abbrev pub reworkedOf : Left → Reworked
 reworkedOf x = record { answer = answerOf x; sheet = x .sheet; pcm = x .pcm; readings = x .readings }
+
+-- in one number: the refusal, and above it the frames
+abbrev pub framesAnswer : Frames → ℕ
+framesAnswer f = f .refusal + 0x100 * f .frames
+
+pub record Restored : Type 0 where
+  pub answer : ℕ
+  pub pcm : List ℕ
+
+abbrev pub restoredOf : ReadBack → Restored
+restoredOf x = record { answer = framesAnswer (x .frames); pcm = x .pcm }

@@ -1,13 +1,19 @@
 // The sound chip for C: entries over numbers and byte slices. tools/c/boltwillow.h says how C calls them.
 ghost use mathlib.Core.Path.{_≡_};
+ghost use Prim.Native.Nat.{_≤_};
 ghost use Rattle.dsp.specs.Machine.{newDsp};
 ghost use Rattle.log.specs.Measure.{measureOf};
 ghost use Rattle.sitting.specs.Run.{runOf};
 ghost use Rattle.rework.specs.Rework.{reworkNewOf};
-ghost use Rattle.boltwillow.specs.Answers.{Played, playedOf, Reworked, reworkedOf};
+ghost use Rattle.wav.specs.Wav.{Written, writeOf, framesOf, readOf};
+ghost use Rattle.boltwillow.specs.Answers.{Played, playedOf, Reworked, reworkedOf, framesAnswer, Restored, restoredOf};
 use log::measure;
 use rework::rework_new;
 use sitting::run_new;
+use wav::Frames;
+use wav::read_wav;
+use wav::wav_frames;
+use wav::write_wav;
 
 // 0, or the log's refusal: 3 to 9.
 #[no_mangle]
@@ -67,4 +73,36 @@ pub extern "C" fn bw_rework(
 {
     let r = rework_new(named, ram, old_log, new_log, sheet, pcm, readings);
     r.refusal as u32 + 0x100 * (r.members as u32) + 0x10000 * r.count
+}
+
+// A sound's file: 44 bytes, then the samples. 0, or the refusal: 10.
+#[no_mangle]
+pub extern "C" fn bw_write_wav(pcm: &[u8], file: &mut [u8]) -> u8
+    ensures { λ r. ⌜ _≡_ {A = Written} (record { refusal = r; file = now (file .exit) }) (writeOf (now (pcm .entry)) (now (file .entry))) ⌝ }
+{
+    write_wav(pcm, file)
+}
+
+// The refusal, and above it the frames.
+fn frames_answer(f: Frames) -> u32
+    requires { ⌜ f .frames ≤ 32000 ⌝ }
+    ensures { λ r. ⌜ r ≡ framesAnswer f ⌝ }
+{
+    f.refusal as u32 + 0x100 * f.frames
+}
+
+// The frames of a file of that layout, above the low byte, which is 0; or 13.
+#[no_mangle]
+pub extern "C" fn bw_wav_frames(file: &[u8]) -> u32
+    ensures { λ r. ⌜ r ≡ framesAnswer (framesOf (now (file .entry))) ⌝ }
+{
+    frames_answer(wav_frames(file))
+}
+
+// The samples of a file of that layout. The answer's low byte is 0 or the refusal: 13, 10. Above it is the number of frames.
+#[no_mangle]
+pub extern "C" fn bw_read_wav(file: &[u8], pcm: &mut [u8]) -> u32
+    ensures { λ r. ⌜ _≡_ {A = Restored} (record { answer = r; pcm = now (pcm .exit) }) (restoredOf (readOf (now (file .entry)) (now (pcm .entry)))) ⌝ }
+{
+    frames_answer(read_wav(file, pcm))
 }

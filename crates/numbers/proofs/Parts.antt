@@ -1,12 +1,17 @@
--- A slice that is lent in parts, one behind the other: what has been written stands before what was found.
-use mathlib.Core.Path.{_≡_, refl, sym, ap, _∙_}
+-- A slice that is lent in parts or stored to, from the front on: what has been written stands before what was found.
+use mathlib.Core.Path.{_≡_, refl, sym, ap, _∙_, subst⁻¹}
 use mathlib.Core.List.{List, [], _∷_, _++_, append-assoc, append-nil}
-use Prim.Native.Nat.{ℕ, _+_, _-_, _≤_, _<_}
+use Prim.Native.Nat.{ℕ, suc, _+_, _-_, _≤_, _<_}
 use native.Mathlib.Omega.{arith}
 use native.Mathlib.Numerals.{add-one}
 use lib.ListN.{length, take, drop, set, length-append, length-drop, take-append-drop, drop-of-length-le}
-use lib.Seq.{length-take-le, take-suc-set, take-at, drop-at, drop-drop, sets, sets-eq}
+use lib.Seq.{length-take-le, take-all, append-snoc, set-split, take-suc-set, take-at, drop-at, drop-drop, sets, sets-eq}
 use borrow.Rule.Slice.PartMut.{putMid, midOf, postOf}
+use Rattle.numbers.specs.Bytes.{copied}
+
+-- a part in the middle is as long as it is said to be
+pub mid-length : {X : Type 0} (a k : ℕ) (xs : List X) → a + k ≤ length xs → length (midOf a k xs) ≡ k
+mid-length a k xs h = let d = length-drop a xs in length-take-le k (drop a xs) (omega arith)
 
 -- stores from 0 on that fill a list
 pub filled : {X : Type 0} (vs xs : List X) → length xs ≡ length vs → sets xs 0 vs ≡ vs
@@ -56,11 +61,28 @@ module _ {X : Type 0} {old new done : List X} {a : ℕ} (w : Written old new a d
         long = length-append done ys ∙ omega arith;
       }
 
+  -- the same of k elements, by what the slice then is
+  pub part-put : (k : ℕ) (ys : List X) {next : List X} → next ≡ putMid a k new ys → length ys ≡ k → Written old next (a + k) (done ++ ys)
+  part-put k ys e l =
+      let d : a + k - a ≡ k = omega arith in
+      subst⁻¹ (λ (n : List X). Written old n (a + k) (done ++ ys)) (e ∙ ap (λ (j : ℕ). putMid a j new ys) (sym d)) (part-written (a + k) ys (omega arith) (l ∙ sym d))
+
   pub sized : a ≤ length old → length new ≡ length old
   sized h =
       let d = w .long in
       let r = length-drop a old in
       ap (λ (l : List X). length l) (w .is) ∙ length-append done (drop a old) ∙ omega (arith, r)
+
+  -- or one element is stored
+  pub stored : (v : X) → a < length old → Written old (set new a v) (a + 1) (done ++ (v ∷ []))
+  stored v h =
+      let d = w .long in
+      let e : set new a v ≡ take a new ++ (v ∷ drop (suc a) new) = set-split new a v (omega (arith, sized (omega arith))) in
+      let r : drop (suc a) new ≡ drop (a + 1) old = ap (λ (n : ℕ). drop n new) (sym (add-one a)) ∙ rest-later (a + 1) (omega arith) in
+      record {
+        is = e ∙ (λ i. done-is i ++ (v ∷ r i)) ∙ sym (append-snoc done v (drop (a + 1) old));
+        long = length-append done (v ∷ []) ∙ omega arith;
+      }
 
   -- all of it
   pub all-written : a ≡ length old → new ≡ done
@@ -73,3 +95,20 @@ module _ {X : Type 0} {old new done : List X} {a : ℕ} (w : Written old new a d
         is = v .is ∙ (λ i. (done-is i ++ zs) ++ rest-later b h i);
         long = sym (ap (λ (l : List X). length (l ++ zs)) done-is) ∙ v .long;
       }
+
+-- a copy ends where the row that is copied does, or where the other one does
+module _ (from : List ℕ) {to new : List ℕ} {i : ℕ} (w : Written to new i (take i from)) where
+  pub copied-all : i ≡ length from → i ≤ length to → new ≡ copied from to
+  copied-all e h =
+      let t : take i from ≡ take (length to) from = take-all i from (omega arith) ∙ sym (take-all (length to) from (omega arith)) in
+      w .is ∙ (λ j. t j ++ drop (e j) to)
+
+  pub copied-full : i ≡ length to → i ≤ length from → new ≡ copied from to
+  copied-full e h =
+      let d : drop i to ≡ drop (length from) to = drop-of-length-le to {i = i} (omega arith) ∙ sym (drop-of-length-le to {i = length from} (omega arith)) in
+      w .is ∙ (λ j. take (e j) from ++ d j)
+
+-- over a row as long, it is the row that is copied
+pub copied-whole : (from to : List ℕ) → length to ≡ length from → copied from to ≡ from
+copied-whole from to e =
+    (λ i. take-all (length to) from (omega arith) i ++ drop-of-length-le to {i = length from} (omega arith) i) ∙ append-nil from

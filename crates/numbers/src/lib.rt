@@ -1,8 +1,9 @@
 // The numbers of the chip: clamps, cuts and bytes of signed numbers, the halves
-// of a u16, and sums and differences that wrap or stop at an end.
+// of a u16, and sums and differences that wrap or stop at an end. And a copy of bytes.
 ghost use mathlib.Core.Path.{_≡_};
 ghost use lib.IntN.{pos};
 ghost use Prim.Native.Nat.{_+_, _-_};
+ghost use Rattle.numbers.specs.Bytes.{copied};
 ghost use Rattle.numbers.specs.Signed.{clamp16Z, cutZ, lowZ, highZ};
 ghost use Rattle.numbers.specs.Unsigned.{withLow, withHigh, wrapped, least};
 
@@ -86,4 +87,18 @@ pub fn min(a: u16, b: u16) -> u16
     ensures { λ r. ⌜ r ≡ least a b ⌝ }
 {
     if a <= b { a } else { b }
+}
+
+// As many bytes as both have.
+pub fn copy(from: &[u8], to: &mut [u8])
+    ensures { λ r. ⌜ now (to .exit) ≡ copied (now (from .entry)) (now (to .entry)) ⌝ }
+{
+    let mut i: usize = 0;
+    while i < from.len() {
+        if i == to.len() {
+            return;
+        }
+        to[i] = from[i];
+        i += 1;
+    }
 }

@@ -39,6 +39,13 @@ pub fn least(a: usize, b: usize) -> usize
     if a < b { a } else { b }
 }
 
+// So many bytes of a buffer, but no more than it has.
+pub fn within(n: usize, buf: &[u8]) -> usize
+    ensures { λ r. ⌜ Counts r (now (buf .entry)) ⌝ }
+{
+    least(n, buf.len())
+}
+
 impl Room {
     // No more than there is.
     pub fn within(self, pcm: usize, sheet: usize, readings: usize) -> Room

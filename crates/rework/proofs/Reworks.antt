@@ -7,8 +7,10 @@ use Prim.Native.Nat.{ℕ}
 use native.Mathlib.Omega.{arith}
 use lib.ListN.{length}
 use borrow.Author.Tests.{eqb-true, eq-eqb, ne-eqb, not-false}
+use Rattle.numbers.specs.Bytes.{copied}
 use Rattle.numbers.specs.Choice.{if_then_else_, _=?_}
 use Rattle.numbers.proofs.Choice.{tested}
+use Rattle.numbers.proofs.Parts.{copied-whole}
 use Rattle.dsp.specs.Machine.{newDsp, apart, together}
 use Rattle.dsp.specs.declared.registers.Dsp.{Dsp}
 use Rattle.sitting.specs.Run.{Outcome, runWith, runOf}
@@ -21,21 +23,26 @@ leaving k d a n sheet pcm readings = record { refusal = k; dsp = d; members = a;
 
 module _ (s : ℕ) (start end : Dsp) (ram log₁ log₂ : List ℕ) where
   -- RAM has its length, where nothing is refused
-  pub ram-whole : refusalOf s start end ram log₁ log₂ ≡ 0 → length ram ≡ 0x10000
+  ram-whole : refusalOf s start end ram log₁ log₂ ≡ 0 → length ram ≡ 0x10000
   unfolding refusalOf
   ram-whole =
       tested (λ (k : ℕ). k ≡ 0 → length ram ≡ 0x10000) (not (length ram =? 0x10000)) (λ _ e. absurd (omega arith)) (λ f _. eqb-true _ _ (not-false _ f))
+
+  -- so that its copy over as many bytes is RAM
+  ram-copied : refusalOf s start end ram log₁ log₂ ≡ 0 → (blank : List ℕ) → length blank ≡ 0x10000 → copied ram blank ≡ ram
+  ram-copied e blank l = copied-whole ram blank (l ∙ sym (ram-whole e))
 
   -- the run of the set, as far as it has come
   pub record Done (sheet pcm readings : List ℕ) (a : ℕ) (o : Outcome) : Type 0 where
     pub is : reworked a start end o ≡ reworkOf s start end ram log₁ log₂ sheet pcm readings
 
-  pub done : (sheet pcm readings : List ℕ) {k a : ℕ} {own : List ℕ} {o : Outcome} → k ≡ refusalOf s start end ram log₁ log₂ → k ≡ 0
-      → a ≡ (if k =? 0 then setOf s start log₂ else 0) → own ≡ ram → o ≡ runWith (only a) start own log₂ pcm sheet readings
+  pub done : (sheet pcm readings blank : List ℕ) {k a : ℕ} {own : List ℕ} {o : Outcome} → k ≡ refusalOf s start end ram log₁ log₂ → k ≡ 0
+      → a ≡ (if k =? 0 then setOf s start log₂ else 0) → length blank ≡ 0x10000 → own ≡ copied ram blank → o ≡ runWith (only a) start own log₂ pcm sheet readings
       → Done sheet pcm readings a o
   unfolding reworkOf
-  done sheet pcm readings {k} {a} {own} {o} ek ez ea er eo =
+  done sheet pcm readings blank {k} {a} {own} {o} ek ez ea el ec eo =
       let e : refusalOf s start end ram log₁ log₂ ≡ 0 = sym ek ∙ ez in
+      let er : own ≡ ram = ec ∙ ram-copied e blank el in
       let es : a ≡ setOf s start log₂ = ea ∙ ap (λ (x : ℕ). if x =? 0 then setOf s start log₂ else 0) ez in
       record {
         is = rw (eq-eqb _ 0 e) (ap (reworked a start end) eo ∙ (λ i. reworked (es i) start end (runWith (only (es i)) start (er i) log₂ pcm sheet readings)));
@@ -74,9 +81,11 @@ module _ (s : ℕ) (ram log₁ log₂ sheet pcm readings : List ℕ) {start : Ds
   pub record First (o : Outcome) : Type 0 where
     pub is : afterFirst s ram log₁ log₂ o ≡ whole
 
-  pub first-run : {k : ℕ} {own : List ℕ} {o : Outcome} → k ≡ refusalOf s start start ram log₁ log₂ → k ≡ 0 → own ≡ ram → o ≡ runOf newDsp own log₁ pcm sheet readings → First o
+  pub first-run : (blank : List ℕ) {k : ℕ} {own : List ℕ} {o : Outcome} → k ≡ refusalOf s start start ram log₁ log₂ → k ≡ 0 → length blank ≡ 0x10000 → own ≡ copied ram blank
+      → o ≡ runOf newDsp own log₁ pcm sheet readings → First o
   unfolding reworkNewOf
-  first-run {k} ek ez er eo =
+  first-run blank {k} {own} ek ez el ec eo =
+      let er : own ≡ ram = ec ∙ ram-copied s start start ram log₁ log₂ (sym ek ∙ ez) blank el in
       let e : refusalOf s newDsp newDsp ram log₁ log₂ ≡ 0 = sym (ek ∙ (λ i. refusalOf s (new i) (new i) ram log₁ log₂)) ∙ ez in
       record { is = rw (eq-eqb _ 0 e) (ap (afterFirst s ram log₁ log₂) (eo ∙ (λ i. runOf newDsp (er i) log₁ pcm sheet readings))) }
 

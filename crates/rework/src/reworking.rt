@@ -12,6 +12,7 @@ use crate::sets::count;
 use dsp::Dsp;
 use dsp::Work;
 use log::measure;
+use numbers::copy;
 use sitting::run_new;
 use sitting::run_with;
 
@@ -105,17 +106,6 @@ fn blank_ram() -> [u8; 0x10000]
     ensures { λ r. ⌜ length r ≡ 0x10000 ⌝ }
 {
     [0; 0x10000]
-}
-
-fn copy(from: &[u8], to: &mut [u8])
-    requires { ⌜ length (now to) ≡ length (now from) ⌝ }
-    ensures { λ r. ⌜ now (to .exit) ≡ now (from .entry) ⌝ }
-{
-    let mut i: usize = 0;
-    while i < from.len() {
-        to[i] = from[i];
-        i += 1;
-    }
 }
 
 // Works A's voices alone, from the first tick, over the old sheet and end record. RAM is read only, so that the run has a copy.

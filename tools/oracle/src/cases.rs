@@ -2,11 +2,18 @@
 //! low byte first), then its bytes. A case to run is the number of its RAM
 //! image (one byte) and a log. A case to rework is the number of its RAM
 //! image, the mask of the named voices, what is lent and which records are
-//! unfit (a byte each), then five logs.
+//! unfit (a byte each), then five logs. A case of a sound file is its way (one
+//! byte), how many bytes are lent (32 bits), the lengths of its front (16
+//! bits) and of its fill (32 bits), all low byte first, the fill's seed (one
+//! byte), then the front.
 
 /// As many as a program reads that must come to an end on any input.
 pub const CASES_MOST: usize = 1_000;
 pub const RAMS_MOST: u8 = 10;
+/// As long as the source of a sound file's case, or what is lent to it, may
+/// be: the longest file and five frames.
+pub const REEL_MOST: usize = 128_064;
+const FRONT_MOST: usize = 256;
 
 #[derive(Clone, Debug, PartialEq)]
 pub struct Case {
@@ -49,6 +56,34 @@ pub mod lent {
 pub mod unfit {
     pub const START: u8 = 1;
     pub const OLD_END: u8 = 2;
+}
+
+/// Bytes for the writer of sound files, or for their reader.
+#[derive(Clone, Debug, PartialEq)]
+pub struct Reel {
+    pub way: Way,
+    /// How many bytes the destination has.
+    pub lent: usize,
+    pub front: Vec<u8>,
+    /// How many made bytes come after the front: a long sound takes few
+    /// bytes here.
+    pub fill: usize,
+    pub seed: u8,
+}
+
+#[derive(Clone, Copy, Debug, PartialEq)]
+pub enum Way {
+    Write = 0,
+    Read = 1,
+}
+
+impl Reel {
+    /// The PCM of a write, the file of a read.
+    pub fn source(&self) -> Vec<u8> {
+        let made = |k: usize| (usize::from(self.seed) + 31 * k + k / 256) as u8;
+        let fill = (0..self.fill).map(made);
+        self.front.iter().copied().chain(fill).collect()
+    }
 }
 
 pub fn ram_path(folder: &str, image: u8) -> String {
@@ -97,6 +132,42 @@ impl Stored for Pair {
     }
 }
 
+impl Stored for Reel {
+    fn bytes(&self) -> Vec<u8> {
+        [
+            &[self.way as u8][..],
+            &(self.lent as u32).to_le_bytes(),
+            &(self.front.len() as u16).to_le_bytes(),
+            &(self.fill as u32).to_le_bytes(),
+            &[self.seed],
+            &self.front,
+        ]
+        .concat()
+    }
+
+    fn first(rest: &mut Rest) -> Option<Self> {
+        let way = match rest.byte()? {
+            0 => Way::Write,
+            1 => Way::Read,
+            _ => return None,
+        };
+        let lent = rest.number(4)?;
+        let front = rest.number(2)?;
+        let fill = rest.number(4)?;
+        let seed = rest.byte()?;
+        if front > FRONT_MOST || front + fill > REEL_MOST || lent > REEL_MOST {
+            return None;
+        }
+        Some(Reel {
+            way,
+            lent,
+            front: rest.row(front)?,
+            fill,
+            seed,
+        })
+    }
+}
+
 pub fn bytes<C: Stored>(cases: &[C]) -> Vec<u8> {
     cases.iter().flat_map(Stored::bytes).collect()
 }
@@ -134,10 +205,21 @@ impl Rest<'_> {
     }
 
     fn log(&mut self) -> Option<Vec<u8>> {
-        let length = usize::from(u16::from_le_bytes([self.byte()?, self.byte()?]));
-        let log = self.0.get(..length)?.to_vec();
+        let length = self.number(2)?;
+        self.row(length)
+    }
+
+    /// Of so many bytes, low byte first.
+    fn number(&mut self, size: usize) -> Option<usize> {
+        let bytes = self.row(size)?;
+        let more = |sum, byte: &u8| sum << 8 | usize::from(*byte);
+        Some(bytes.iter().rev().fold(0, more))
+    }
+
+    fn row(&mut self, length: usize) -> Option<Vec<u8>> {
+        let row = self.0.get(..length)?.to_vec();
         self.0 = &self.0[length..];
-        Some(log)
+        Some(row)
     }
 }
 
@@ -178,6 +260,73 @@ mod tests {
         for length in 1..file.len() {
             assert!(read::<Pair>(&file[..length]).is_err());
         }
+    }
+
+    fn reel(lent: usize, front: usize, fill: usize) -> Reel {
+        Reel {
+            way: Way::Write,
+            lent,
+            front: vec![b'f'; front],
+            fill,
+            seed: 9,
+        }
+    }
+
+    #[test]
+    fn reels_come_back_from_their_bytes() {
+        let reel = Reel {
+            way: Way::Read,
+            lent: 0x1_F43C,
+            front: b"RIF".to_vec(),
+            fill: 0x1_0203,
+            seed: 0xFE,
+        };
+        let file = b"\x01\x3C\xF4\x01\x00\x03\x00\x03\x02\x01\x00\xFERIF";
+        assert_eq!(bytes(&[reel.clone()]), file);
+        let both = [
+            Reel {
+                way: Way::Write,
+                ..reel.clone()
+            },
+            reel,
+        ];
+        assert_eq!(read::<Reel>(&bytes(&both)).unwrap(), both);
+        for length in 1..file.len() {
+            assert!(read::<Reel>(&file[..length]).is_err());
+        }
+    }
+
+    #[test]
+    fn a_reel_of_another_way() {
+        let mut file = bytes(&[reel(0, 0, 0)]);
+        for way in 2..=255 {
+            file[0] = way;
+            assert_eq!(read::<Reel>(&file).unwrap_err(), "case 1 stops");
+        }
+    }
+
+    #[test]
+    fn a_reel_as_long_as_may_be() {
+        let taken = |reel| read::<Reel>(&bytes(&[reel])).is_ok();
+        assert!(taken(reel(128_064, 256, 127_808)));
+        assert!(taken(reel(0, 0, 128_064)));
+        assert!(!taken(reel(128_065, 0, 0)));
+        assert!(!taken(reel(0, 257, 0)));
+        assert!(!taken(reel(0, 0, 128_065)));
+        assert!(!taken(reel(0, 1, 128_064)));
+        assert!(!taken(reel(0, 0, 0xFFFF_FFFF)));
+        assert!(!taken(reel(0xFFFF_FFFF, 0, 0)));
+    }
+
+    /// The front, then byte k is seed + 31·k + k / 256.
+    #[test]
+    fn the_source_of_a_reel() {
+        let source = reel(0, 2, 300).source();
+        assert_eq!(source.len(), 302);
+        assert_eq!(source[..5], [b'f', b'f', 9, 40, 71]);
+        assert_eq!(source[2 + 255], (9_u16 + 31 * 255) as u8);
+        assert_eq!(source[2 + 256], 9 + 1);
+        assert_eq!(source[2 + 257], 9 + 31 + 1);
     }
 
     #[test]

@@ -13,7 +13,7 @@ pub enum Record {
     End,
 }
 
-/// Document 01's refusal numbers.
+/// Document 01's refusal numbers, then those of document 02.
 #[derive(Clone, Copy, Debug, PartialEq)]
 pub enum Refusal {
     RamLength = 1,
@@ -28,6 +28,8 @@ pub enum Refusal {
     LentLength = 10,
     EchoOn = 11,
     LogsDiffer = 12,
+    /// W-201: "a file not of this layout".
+    OtherLayout = 13,
 }
 
 impl Record {

@@ -1,5 +1,6 @@
 //! The oracle: what every register, RAM byte and sample must be, by the
-//! given Rust. This file is the command line; README.md lists the commands.
+//! given Rust, and what a sound file must be, by W-201. This file is the
+//! command line; README.md lists the commands.
 
 use std::fs;
 use std::io::{self, Write};
@@ -17,11 +18,14 @@ mod rework;
 mod selfcheck;
 mod sheet;
 mod trace;
+mod wav;
+mod wavs;
 
 const USAGE: &str = "usage: oracle nibble | block | interpolate | envelope | noise | selfcheck \
     | run LOG RAM [PCM_OUT [RAM_OUT]] | make KIND SEED LOG_OUT RAM_OUT \
     | trace CASES FOLDER | cases KIND COUNT SEED OUTFOLDER \
-    | rework PAIRS FOLDER | pairs KIND COUNT SEED OUTFOLDER";
+    | rework PAIRS FOLDER | pairs KIND COUNT SEED OUTFOLDER \
+    | wavs REELS FOLDER | reels KIND COUNT SEED OUTFOLDER";
 
 fn main() -> ExitCode {
     let words: Vec<String> = std::env::args().skip(1).collect();
@@ -58,6 +62,12 @@ fn command(words: &[&str]) -> Result<(), String> {
             let (count, seed) = (number(count)?, number(seed)?);
             store(&make::pairs::pairs(kind, count as usize, seed)?, folder)
         }
+        // No sound file has a RAM image to look for in the folder.
+        ["wavs", reels, _] => wavs(reels),
+        ["reels", kind, count, seed, folder] => {
+            let (count, seed) = (number(count)?, number(seed)?);
+            store(&make::reels::reels(kind, count as usize, seed)?, folder)
+        }
         _ => Err(USAGE.to_string()),
     }
 }
@@ -86,6 +96,11 @@ fn rework(pairs: &str, folder: &str) -> Result<(), String> {
     let pairs = cases::read(&read(pairs)?)?;
     let text = rework::report(&pairs, |image| read_ram(&cases::ram_path(folder, image)))?;
     print(text.as_bytes())
+}
+
+fn wavs(reels: &str) -> Result<(), String> {
+    let reels = cases::read(&read(reels)?)?;
+    print(wavs::report(&reels).as_bytes())
 }
 
 /// Prints what each case is called, if it has a name.

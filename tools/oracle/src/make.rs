@@ -7,6 +7,7 @@ mod directed;
 mod limits;
 pub mod pairs;
 mod plain;
+pub mod reels;
 mod scenes;
 
 use crate::log::{Record, TICKS_MOST};

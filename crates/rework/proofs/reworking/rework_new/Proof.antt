@@ -1,7 +1,7 @@
 -- By the refusals; then the first run, and the rework of it.
 use borrow.Author.Needs.{needs}
 use mathlib.Core.Path.{sym, _∙_}
-use Rattle.rework.proofs.Reworks.{ram-whole, refused-new, first-run, refused-first, reworked-first}
+use Rattle.rework.proofs.Reworks.{refused-new, first-run, refused-first, reworked-first}
 use Rattle.rework.proofs.reworking.rework_new.Statement.{statement}
 use Rattle.rework.proofs.reworking.rework_new.Tie as tie
 
@@ -10,19 +10,15 @@ returns c = let a = c .before .before .before .before .before .before .before .b
     let e = c .refused .ensures in
     refused-new (a .named) (a .ram .now) (a .old-log .now) (a .new-log .now) (a .sheet .now) (a .pcm .now) (a .readings .now) (c .before .before .before .before .new .ensures) (c .before .before .before .checked .ensures .0) (c .before .if1 .taken) (e .0) (e .1) (e .2) (e .3)
 
-copy-requires : tie.Need-copy-requires
-copy-requires c κs = let a = c .before .before .before .before .before .before .before .before .before .before .before .before .args in
-    c .before .blank-ram .ensures ∙ sym (ram-whole (a .named) (c .before .before .before .before .before .new .result) (c .before .before .before .before .before .new .result) (a .ram .now) (a .old-log .now) (a .new-log .now) (sym (c .before .before .before .before .checked .ensures .0) ∙ c .before .before .if1 .left))
-
 returns-2 : tie.Need-returns-2
 returns-2 c = let a = c .before .before .before .before .before .before .before .before .before .before .before .before .before .before .before .before .before .before .before .before .before .before .before .before .before .before .before .before .before .args in
     let e = c .refused2 .ensures in
-    let f = first-run (a .named) (a .ram .now) (a .old-log .now) (a .new-log .now) (a .sheet .now) (a .pcm .now) (a .readings .now) (c .before .before .before .before .before .before .before .before .before .before .before .before .before .before .before .before .before .before .before .before .before .before .new .ensures) (c .before .before .before .before .before .before .before .before .before .before .before .before .before .before .before .before .before .before .before .before .before .checked .ensures .0) (c .before .before .before .before .before .before .before .before .before .before .before .before .before .before .before .before .before .before .before .if1 .left) (c .before .before .before .before .before .before .before .before .before .before .before .before .before .before .before .before .copy .ensures) (c .before .before .before .before .before .before .before .before .before .before .run-new .ensures) in
+    let f = first-run (a .named) (a .ram .now) (a .old-log .now) (a .new-log .now) (a .sheet .now) (a .pcm .now) (a .readings .now) (c .before .before .before .before .before .before .before .before .before .before .before .before .before .before .before .before .before .before .before .before .before .before .new .ensures) (c .before .before .before .before .before .before .before .before .before .before .before .before .before .before .before .before .before .before .blank-ram .result) (c .before .before .before .before .before .before .before .before .before .before .before .before .before .before .before .before .before .before .before .before .before .checked .ensures .0) (c .before .before .before .before .before .before .before .before .before .before .before .before .before .before .before .before .before .before .before .if1 .left) (c .before .before .before .before .before .before .before .before .before .before .before .before .before .before .before .before .before .before .blank-ram .ensures) (c .before .before .before .before .before .before .before .before .before .before .before .before .before .before .before .before .copy .ensures) (c .before .before .before .before .before .before .before .before .before .before .run-new .ensures) in
     refused-first (a .named) (a .ram .now) (a .old-log .now) (a .new-log .now) (a .sheet .now) (a .pcm .now) (a .readings .now) (c .before .before .before .before .before .before .before .before .before .before .before .before .before .before .before .before .before .before .before .before .before .before .new .ensures) f (e .0) (e .1) (e .2) (e .3) (c .before .if2 .taken)
 
 returns-3 : tie.Need-returns-3
 returns-3 c = let a = c .before .before .before .before .before .before .before .before .before .before .before .before .before .before .before .before .before .before .before .before .before .before .before .before .before .before .before .before .before .before .before .before .before .before .before .before .before .before .args in
-    let f = first-run (a .named) (a .ram .now) (a .old-log .now) (a .new-log .now) (a .sheet .now) (a .pcm .now) (a .readings .now) (c .before .before .before .before .before .before .before .before .before .before .before .before .before .before .before .before .before .before .before .before .before .before .before .before .before .before .before .before .before .before .before .new .ensures) (c .before .before .before .before .before .before .before .before .before .before .before .before .before .before .before .before .before .before .before .before .before .before .before .before .before .before .before .before .before .before .checked .ensures .0) (c .before .before .before .before .before .before .before .before .before .before .before .before .before .before .before .before .before .before .before .before .before .before .before .before .before .before .before .before .if1 .left) (c .before .before .before .before .before .before .before .before .before .before .before .before .before .before .before .before .before .before .before .before .before .before .before .before .before .copy .ensures) (c .before .before .before .before .before .before .before .before .before .before .before .before .before .before .before .before .before .before .before .run-new .ensures) in
+    let f = first-run (a .named) (a .ram .now) (a .old-log .now) (a .new-log .now) (a .sheet .now) (a .pcm .now) (a .readings .now) (c .before .before .before .before .before .before .before .before .before .before .before .before .before .before .before .before .before .before .before .before .before .before .before .before .before .before .before .before .before .before .before .new .ensures) (c .before .before .before .before .before .before .before .before .before .before .before .before .before .before .before .before .before .before .before .before .before .before .before .before .before .before .before .blank-ram .result) (c .before .before .before .before .before .before .before .before .before .before .before .before .before .before .before .before .before .before .before .before .before .before .before .before .before .before .before .before .before .before .checked .ensures .0) (c .before .before .before .before .before .before .before .before .before .before .before .before .before .before .before .before .before .before .before .before .before .before .before .before .before .before .before .before .if1 .left) (c .before .before .before .before .before .before .before .before .before .before .before .before .before .before .before .before .before .before .before .before .before .before .before .before .before .before .before .blank-ram .ensures) (c .before .before .before .before .before .before .before .before .before .before .before .before .before .before .before .before .before .before .before .before .before .before .before .before .before .copy .ensures) (c .before .before .before .before .before .before .before .before .before .before .before .before .before .before .before .before .before .before .before .run-new .ensures) in
     reworked-first (a .named) (a .ram .now) (a .old-log .now) (a .new-log .now) (a .sheet .now) (a .pcm .now) (a .readings .now) (c .before .before .before .before .before .before .before .before .before .before .before .before .before .before .before .before .before .before .before .before .before .before .before .before .before .before .before .before .before .before .before .new .ensures) f (c .before .before .before .before .before .before .before .before .before .before .if2 .left) (c .before .before .before .before .before .before .rework .ensures)
 
 pub rework-new-spec : {M : Type 1} → statement M
@@ -35,7 +31,7 @@ rework-new-spec =
     returns
     (λ c κs. search needs)
     (λ c. search needs)
-    copy-requires
+    (λ c κs. search needs)
     (λ c. search needs)
     (λ c κs. search needs)
     (λ c κs. search needs)
