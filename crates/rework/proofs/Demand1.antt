@@ -15,14 +15,14 @@ use Rattle.dsp.specs.Mix.{Rendered, renderOf}
 use Rattle.dsp.specs.Tick.{After, refused, stepOf, Drove, undriven, driveOf}
 use Rattle.dsp.specs.declared.registers.Dsp.{Dsp}
 use Rattle.dsp.specs.declared.tick.Work.{Work}
-use Rattle.log.specs.Measure.{ticksOf, readingsOf, refusedBy as unmeasured, total, measureOf}
+use Rattle.log.specs.Measure.{ticksIn, readingsIn, unmeasured, total, measureOf}
 use Rattle.log.specs.Log.{readAt, decode}
 use Rattle.log.specs.declared.Record.{Record}
 use Rattle.log.specs.declared.Record.the-variants.{Write, Ticks, Reading}
 use Rattle.log.specs.declared.Next.{Next}
 use Rattle.log.specs.declared.Next.the-variants.{On, Off}
 use Rattle.log.specs.declared.Measured.{Measured}
-use Rattle.sitting.specs.Run.{Outcome, refusedBy as unrun, runMeasured, runWith}
+use Rattle.sitting.specs.Run.{Outcome, unrun, runMeasured, runWith}
 use Rattle.sitting.specs.Parts.{Told, Parted, untold, unparted, stopAt, recordAt, nextAt, sounding, partOf}
 use Rattle.rework.specs.Rework.{setOf, only, Left, refusedBy as unreworked, refusalOf, reworkOf}
 use Rattle.rework.specs.Demands.{Demand1}
@@ -53,8 +53,8 @@ total-refused : (rs : List Record) (stop t q : ℕ) → total rs stop t q .refus
 unfolding total
 total-refused [] stop t q = tested (λ (m : Measured). m .refusal ≢ 0 → m ≡ unmeasured (m .refusal)) (stop =? 0) (λ _ h. absurd (h refl)) (λ _ h. refl)
 total-refused (r ∷ rs) stop t q =
-    tested (λ (m : Measured). m .refusal ≢ 0 → m ≡ unmeasured (m .refusal)) (32000 <? t + ticksOf r) (λ _ h. refl)
-    (λ _. total-refused rs stop (t + ticksOf r) (q + readingsOf r))
+    tested (λ (m : Measured). m .refusal ≢ 0 → m ≡ unmeasured (m .refusal)) (32000 <? t + ticksIn r) (λ _ h. refl)
+    (λ _. total-refused rs stop (t + ticksIn r) (q + readingsIn r))
 
 measure-refused : (log : List ℕ) → measureOf log .refusal ≢ 0 → measureOf log ≡ unmeasured (measureOf log .refusal)
 unfolding measureOf

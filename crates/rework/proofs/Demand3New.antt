@@ -15,7 +15,7 @@ use Rattle.dsp.specs.Tick.{everything, benchOf}
 use Rattle.dsp.specs.declared.registers.Dsp.{Dsp}
 use Rattle.dsp.proofs.Tests.{eq, _and_}
 use Rattle.log.specs.Log.{decode}
-use Rattle.log.specs.Measure.{ticksOf, readingsOf, measureOf}
+use Rattle.log.specs.Measure.{ticksIn, readingsIn, measureOf}
 use Rattle.log.specs.declared.Record.{Record}
 use Rattle.log.specs.declared.Record.the-variants.{Write, Ticks, Reading}
 use Rattle.log.proofs.Turn.{taken}
@@ -110,8 +110,8 @@ module _ (s : ℕ) (ram log₁ log₂ sheet pcm readings : List ℕ) (b₁ : Byt
     fits-second =
         let m = measured-sums log₁ (u .first) in
         let n = measured-sums log₂ (u .second) in
-        let t = m .0 ∙ sums-same ticksOf (λ r x. refl) s (decode log₁ .records) (decode log₂ .records) (u .logs) ∙ sym (n .0) in
-        let q = m .1 ∙ sums-same readingsOf (λ r x. refl) s (decode log₁ .records) (decode log₂ .records) (u .logs) ∙ sym (n .1) in
+        let t = m .0 ∙ sums-same ticksIn (λ r x. refl) s (decode log₁ .records) (decode log₂ .records) (u .logs) ∙ sym (n .0) in
+        let q = m .1 ∙ sums-same readingsIn (λ r x. refl) s (decode log₁ .records) (decode log₂ .records) (u .logs) ∙ sym (n .1) in
         record { ram-whole = f .ram-whole; fits = f .fits; taken = u .second; heard = f .heard ∙ ap (λ (k : ℕ). k * 4) t; shown = f .shown ∙ ap (λ (k : ℕ). k * 36) t; told = f .told ∙ q }
 
     -- and the first run leaves as much as it was lent

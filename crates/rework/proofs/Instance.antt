@@ -24,7 +24,7 @@ use Rattle.dsp.specs.Tick.{turn, voicesTick, globTick, sharedFrom, tickOf, benc
 use Rattle.dsp.specs.Voice.{pitchOf, positionOf, samplesTaken, filled, placed, decodedAt, nextAddress, nextBlock, resolved, heard, takeOne, consume, advanced, interpolated, sounded, voiceStep}
 use Rattle.dsp.specs.declared.voice.Voice.{Voice}
 use Rattle.dsp.proofs.Tests.{lt, _and_}
-use Rattle.log.specs.Log.{writeAt as writeAt-log, ticksAt, readingAt, byMark, readAt, decodeFrom, decode}
+use Rattle.log.specs.Log.{writeRecord, ticksRecord, readingRecord, byMark, readAt, decodeFrom, decode}
 use Rattle.log.specs.Measure.{measureOf}
 use Rattle.sitting.specs.Run.{Outcome, runOf, runMeasured, runWith}
 use Rattle.sitting.specs.Play.{play, playAll}
@@ -102,7 +102,7 @@ pub record Seen : Type 0 where
   pub second-runs : run 0x40 .refusal ≡ 0
 
 pub seen : Seen
-unfolding periods periodOf shifted byteAt wordAt decodeBlock tickDue echoWritten lengthNow pointerNext echoMoved echoTick echoFrom echoLane attackTick gainTick phaseTick envelopeTick fitVoices fit keyedOff keyedOn waited noised sourceOf polledOf waitedOf cellAfter cellOf shownCell withBit putBytes added ownCell turned scaledOutput noiseTick turns writeParts writeAt writeOf pairBytes laneBytes turn voicesTick globTick sharedFrom tickOf benchTick ticksOf pitchOf positionOf samplesTaken filled placed decodedAt nextAddress nextBlock resolved heard takeOne consume advanced interpolated sounded voiceStep writeAt-log ticksAt readingAt byMark readAt decodeFrom decode measureOf play playAll runMeasured runWith without sameRecord sameRecords alike quiet joinedBy joinedOver members voicesIn listed picked refusalOf reworkOf
+unfolding periods periodOf shifted byteAt wordAt decodeBlock tickDue echoWritten lengthNow pointerNext echoMoved echoTick echoFrom echoLane attackTick gainTick phaseTick envelopeTick fitVoices fit keyedOff keyedOn waited noised sourceOf polledOf waitedOf cellAfter cellOf shownCell withBit putBytes added ownCell turned scaledOutput noiseTick turns writeParts writeAt writeOf pairBytes laneBytes turn voicesTick globTick sharedFrom tickOf benchTick ticksOf pitchOf positionOf samplesTaken filled placed decodedAt nextAddress nextBlock resolved heard takeOne consume advanced interpolated sounded voiceStep writeRecord ticksRecord readingRecord byMark readAt decodeFrom decode measureOf play playAll runMeasured runWith without sameRecord sameRecords alike quiet joinedBy joinedOver members voicesIn listed picked refusalOf reworkOf
 seen =
     record {
       members = refl;

@@ -16,10 +16,10 @@ use Rattle.dsp.specs.Tick.{After, refused, stepOf, undriven, driveOf}
 use Rattle.dsp.specs.declared.registers.Dsp.{Dsp}
 use Rattle.dsp.specs.declared.tick.Work.{Work}
 use Rattle.log.specs.Log.{decode}
-use Rattle.log.specs.Measure.{measureOf, refusedBy as unmeasured}
+use Rattle.log.specs.Measure.{measureOf, unmeasured}
 use Rattle.log.specs.declared.Record.{Record}
 use Rattle.log.specs.declared.Record.the-variants.{Write, Ticks, Reading}
-use Rattle.sitting.specs.Run.{Outcome, refusedBy as unrun, runWith, runOf}
+use Rattle.sitting.specs.Run.{Outcome, unrun, runWith, runOf}
 use Rattle.sitting.specs.Parts.{unparted, partOf}
 use Rattle.rework.specs.Alike.{without}
 use Rattle.rework.specs.Members.{modesOf, quiet, voicesIn}

@@ -27,7 +27,7 @@ use Rattle.log.specs.declared.Record.the-variants.{Write, Ticks, Reading}
 use Rattle.log.specs.declared.Next.{Next}
 use Rattle.log.specs.declared.Next.the-variants.{On, Off}
 use Rattle.log.proofs.Places.{opened-at, closed-at}
-use Rattle.sitting.specs.Play.{Run, byteOf, play, playAll, starting}
+use Rattle.sitting.specs.Play.{Run, registerIn, play, playAll, starting}
 use Rattle.sitting.specs.Parts.{Parted, untold, stopAt, recordAt, nextAt, ticksNow, sounding, partOf, Rest, restIn, restOf, ahead, PartAfterPart, PartsBegin, PartsEnd}
 use Rattle.sitting.specs.Run.{Outcome, runMeasured, runWith}
 use Rattle.sitting.specs.declared.parts.Heard.the-variants.{End}
@@ -54,7 +54,7 @@ play-front : (w : Work) (r : Record) (p s q : List ℕ) (x : Run) → play w r (
 unfolding play
 play-front w (Write r v) p s q x = refl
 play-front w (Ticks n) p s q x = λ i. record { bench = ticks-front w n p s (x .bench) i; readings = q ++ x .readings }
-play-front w (Reading r) p s q x = λ i. record { bench = frontBench p s (x .bench); readings = append-assoc q (x .readings) (byteOf (x .bench) r ∷ []) i }
+play-front w (Reading r) p s q x = λ i. record { bench = frontBench p s (x .bench); readings = append-assoc q (x .readings) (registerIn (x .bench) r ∷ []) i }
 
 all-front : (w : Work) (rs : List Record) (p s q : List ℕ) (x : Run) → playAll w rs (front p s q x) ≡ front p s q (playAll w rs x)
 unfolding playAll
@@ -103,7 +103,7 @@ next-after (Off k) d at ram log pcm e = stop-after k d at ram log pcm
 next-after (On (Write r v) behind) d at ram log pcm e = λ z. ap (restBy d ram) (opened-at log at behind (Write r v) e)
 next-after (On (Ticks n) behind) d at ram log pcm e = λ z. ap (restBy d ram) (opened-at log at behind (Ticks n) e)
 next-after (On (Reading r) behind) d at ram log pcm e =
-    λ z. ap (restBy d ram) (opened-at log at behind (Reading r) e) ∙ ap restIn (all-front everything (recordsFrom log behind) [] [] (byteOf (benchOf d ram []) r ∷ []) (starting d ram []))
+    λ z. ap (restBy d ram) (opened-at log at behind (Reading r) e) ∙ ap restIn (all-front everything (recordsFrom log behind) [] [] (registerIn (benchOf d ram []) r ∷ []) (starting d ram []))
 
 stop-last : (k : ℕ) (d : Dsp) (at : ℕ) (ram log pcm : List ℕ) → readAt log at ≡ Off k → Last d at 0 ram log (record { told = stopAt k d at; ram = ram; pcm = pcm })
 unfolding stopAt restOf playAll play ticksOf
