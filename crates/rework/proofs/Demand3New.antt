@@ -22,7 +22,7 @@ use Rattle.log.proofs.Turn.{taken}
 use Rattle.sitting.specs.Run.{Outcome, runOf}
 use Rattle.rework.specs.Alike.{stays, without, sameRecord, sameRecords, alike}
 use Rattle.rework.specs.Members.{modesOf, quiet}
-use Rattle.rework.specs.Rework.{Left, refusedBy as unreworked, refusalOf, reworkOf, afterFirst, reworkNewOf}
+use Rattle.rework.specs.Rework.{Left, unreworked, refusalOf, reworkOf, afterFirst, reworkNewOf}
 use Rattle.rework.specs.Demands.{Bytes, Reworks, Demand3New}
 use Rattle.rework.proofs.Bits.{itself}
 use Rattle.rework.proofs.Taped.{taped}
@@ -92,13 +92,13 @@ sums-same f h s rs qs e = sym (sum-without f h s rs) ∙ ap (sumIn f) e ∙ sum-
 
 -- ---- the first run, and the rework of it
 
-module _ (s : ℕ) (ram log₁ log₂ sheet pcm readings : List ℕ) (b₁ : Bytes log₁) (b₂ : Bytes log₂) where
+module _ (s : ℕ) (ram log₁ log₂ pcm sheet readings : List ℕ) (b₁ : Bytes log₁) (b₂ : Bytes log₂) where
   abbrev second : Outcome
   second = runOf newDsp ram log₂ pcm sheet readings
 
   abbrev Is : Left → Type 0
   Is x =
-      (x .refusal ≢ 0 → x ≡ unreworked (x .refusal) newDsp sheet pcm readings)
+      (x .refusal ≢ 0 → x ≡ unreworked (x .refusal) newDsp pcm sheet readings)
       × (x .refusal ≡ 0 → (x .sheet ≡ second .sheet) × (x .readings ≡ second .readings) × (x .pcm ≡ second .pcm) × (x .dsp ≡ second .dsp))
 
   module _ (u : Unrefused s newDsp newDsp ram log₁ log₂) (f : Fitting newDsp ram log₁ pcm sheet readings) where
@@ -125,7 +125,7 @@ module _ (s : ℕ) (ram log₁ log₂ sheet pcm readings : List ℕ) (b₁ : Byt
           ap (λ (o : Outcome). length (o .readings)) i ∙ ap length (p .readings) ∙ c .readings ∙ sym (m .1) ∙ sym (f .told),
         )
 
-    reworks : Reworks s newDsp log₂ first second (reworkOf s newDsp (first .dsp) ram log₁ log₂ (first .sheet) (first .pcm) (first .readings))
+    reworks : Reworks s newDsp log₂ first second (reworkOf s newDsp (first .dsp) ram log₁ log₂ (first .pcm) (first .sheet) (first .readings))
     reworks =
         let q : quiet (decode log₁ .records) (modesOf newDsp) ≡ true = sym (quiet-without s (decode log₁ .records) (modesOf newDsp)) ∙ ap (λ (l : List Record). quiet l (modesOf newDsp)) (u .logs) ∙ quiet-without s (decode log₂ .records) (modesOf newDsp) ∙ u .still in
         demand3 s newDsp newDsp ram log₁ log₂ pcm sheet readings pcm sheet readings (first .pcm) (first .readings) new-value new-value b₁ b₂ (same-self s (apart newDsp)) (u .logs) q
@@ -143,11 +143,11 @@ module _ (s : ℕ) (ram log₁ log₂ sheet pcm readings : List ℕ) (b₁ : Byt
       (λ e.
       let z = eqb-false _ _ e in
       let g = run-refused everything newDsp ram log₁ pcm sheet readings z in
-      (λ _. (λ i. unreworked (o .refusal) newDsp (g i .sheet) (g i .pcm) (g i .readings)), λ h. absurd (z h)))
+      (λ _. (λ i. unreworked (o .refusal) newDsp (g i .pcm) (g i .sheet) (g i .readings)), λ h. absurd (z h)))
 
 pub demand3-new : Demand3New
 unfolding reworkNewOf
-demand3-new s ram log₁ log₂ sheet pcm readings b₁ b₂ =
-    tested (Is s ram log₁ log₂ sheet pcm readings b₁ b₂) (refusalOf s newDsp newDsp ram log₁ log₂ =? 0)
-    (λ e. after s ram log₁ log₂ sheet pcm readings b₁ b₂ (passed s newDsp newDsp ram log₁ log₂ (eqb-true _ _ e)))
+demand3-new s ram log₁ log₂ pcm sheet readings b₁ b₂ =
+    tested (Is s ram log₁ log₂ pcm sheet readings b₁ b₂) (refusalOf s newDsp newDsp ram log₁ log₂ =? 0)
+    (λ e. after s ram log₁ log₂ pcm sheet readings b₁ b₂ (passed s newDsp newDsp ram log₁ log₂ (eqb-true _ _ e)))
     (λ e. (λ _. refl, λ h. absurd (eqb-false _ _ e h)))

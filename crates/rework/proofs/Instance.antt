@@ -72,7 +72,7 @@ abbrev run : ℕ → Outcome
 run gain = runOf newDsp ram (lesson gain) pcm sheet told
 
 abbrev again : Left
-again = reworkOf 0x08 newDsp (run 0x7F .dsp) ram (lesson 0x7F) (lesson 0x40) (run 0x7F .sheet) pcm told
+again = reworkOf 0x08 newDsp (run 0x7F .dsp) ram (lesson 0x7F) (lesson 0x40) pcm (run 0x7F .sheet) told
 
 -- ---- what comes of it
 

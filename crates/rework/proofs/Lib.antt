@@ -14,6 +14,8 @@ pub mod Sheets
 pub mod Beats
 pub mod Taken
 pub mod Keeps
+pub mod Faults
+pub mod Refused
 pub mod Demand1
 pub mod Demand2
 pub mod Demand3

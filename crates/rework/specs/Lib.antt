@@ -1,3 +1,4 @@
+pub mod Refusals
 pub mod Alike
 pub mod Members
 pub mod Differ

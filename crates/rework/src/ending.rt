@@ -4,7 +4,7 @@ ghost use Prim.Native.Nat.{_<_};
 ghost use lib.ListN.{length};
 ghost use Rattle.numbers.specs.Choice.{if_then_else_};
 ghost use Rattle.dsp.specs.Machine.{noVoice, apart, together};
-ghost use Rattle.rework.specs.Rework.{picked, byteOf, pickedBytes, endOf};
+ghost use Rattle.rework.specs.Rework.{picked, endByte, pickedBytes, endOf};
 use crate::sets::bit;
 use dsp::Dsp;
 use dsp::Voice;
@@ -51,7 +51,7 @@ fn pick_delays(set: u8, new: [u8; 8], old: [u8; 8]) -> [u8; 8]
 // Of ENDX the set's bits are taken, and the voices' own registers $j0 to $j9.
 fn byte_of(set: u8, i: usize, new: u8, old: u8) -> u8
     requires { ⌜ i < 128 ⌝ }
-    ensures { λ r. ⌜ r ≡ byteOf set i new old ⌝ }
+    ensures { λ r. ⌜ r ≡ endByte set i new old ⌝ }
 {
     if i == 0x7C {
         new & set | old & (255 - set)

@@ -117,11 +117,11 @@ pub fn rework(
     ram: &[u8],
     old_log: &[u8],
     new_log: &[u8],
-    sheet: &mut [u8],
     pcm: &mut [u8],
+    sheet: &mut [u8],
     readings: &mut [u8],
 ) -> Reworked
-    ensures { λ r. ⌜ _≡_ {A = Left} (record { refusal = r .refusal; dsp = r .dsp; members = r .members; count = r .count; sheet = now (sheet .exit); pcm = now (pcm .exit); readings = now (readings .exit) }) (reworkOf named start «old_end» (now (ram .entry)) (now («old_log» .entry)) (now («new_log» .entry)) (now (sheet .entry)) (now (pcm .entry)) (now (readings .entry))) ⌝ }
+    ensures { λ r. ⌜ _≡_ {A = Left} (record { refusal = r .refusal; dsp = r .dsp; members = r .members; count = r .count; pcm = now (pcm .exit); sheet = now (sheet .exit); readings = now (readings .exit) }) (reworkOf named start «old_end» (now (ram .entry)) (now («old_log» .entry)) (now («new_log» .entry)) (now (pcm .entry)) (now (sheet .entry)) (now (readings .entry))) ⌝ }
 {
     let c = checked(named, start, old_end, ram, old_log, new_log);
     if c.refusal != 0 {
@@ -152,11 +152,11 @@ pub fn rework_new(
     ram: &[u8],
     old_log: &[u8],
     new_log: &[u8],
-    sheet: &mut [u8],
     pcm: &mut [u8],
+    sheet: &mut [u8],
     readings: &mut [u8],
 ) -> Reworked
-    ensures { λ r. ⌜ _≡_ {A = Left} (record { refusal = r .refusal; dsp = r .dsp; members = r .members; count = r .count; sheet = now (sheet .exit); pcm = now (pcm .exit); readings = now (readings .exit) }) (reworkNewOf named (now (ram .entry)) (now («old_log» .entry)) (now («new_log» .entry)) (now (sheet .entry)) (now (pcm .entry)) (now (readings .entry))) ⌝ }
+    ensures { λ r. ⌜ _≡_ {A = Left} (record { refusal = r .refusal; dsp = r .dsp; members = r .members; count = r .count; pcm = now (pcm .exit); sheet = now (sheet .exit); readings = now (readings .exit) }) (reworkNewOf named (now (ram .entry)) (now («old_log» .entry)) (now («new_log» .entry)) (now (pcm .entry)) (now (sheet .entry)) (now (readings .entry))) ⌝ }
 {
     let start = Dsp::new();
     let c = checked(named, start, start, ram, old_log, new_log);
@@ -176,8 +176,8 @@ pub fn rework_new(
         ram,
         old_log,
         new_log,
-        sheet,
         pcm,
+        sheet,
         readings,
     )
 }
