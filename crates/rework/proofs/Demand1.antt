@@ -23,7 +23,7 @@ use Rattle.log.specs.declared.Next.{Next}
 use Rattle.log.specs.declared.Next.the-variants.{On, Off}
 use Rattle.log.specs.declared.Measured.{Measured}
 use Rattle.sitting.specs.Run.{Outcome, unrun, runMeasured, runWith}
-use Rattle.sitting.specs.Parts.{Told, Parted, untold, unparted, stopAt, recordAt, nextAt, sounding, partOf}
+use Rattle.sitting.specs.Parts.{Told, Parted, untold, unparted, stopAt, recordAt, nextAt, sounding, logRefusal, partOf}
 use Rattle.rework.specs.Rework.{setOf, only, Left, refusedBy as unreworked, refusalOf, reworkOf}
 use Rattle.rework.specs.Demands.{Demand1}
 
@@ -85,9 +85,9 @@ part-refused : (d : Dsp) (at left : ℕ) (ram log pcm : List ℕ) → partOf d a
 unfolding partOf sounding
 part-refused d at left ram log pcm =
     let P : Parted → Type 0 = (λ a. a .told .refusal ≢ 0 → a ≡ unparted (a .told .refusal) d at left ram pcm) in
-    tested P (length ram =? 0x10000) (λ _. tested P (fit d) (λ _. tested P (60000 <? length log) (λ _ h. refl) (λ _. tested P (left =? 0)
+    tested P (length ram =? 0x10000) (λ _. tested P (fit d) (λ _. tested P (logRefusal at log =? 0) (λ _. tested P (left =? 0)
     (λ z h. let e = next-refused (readAt log at) d at left (eqb-true left 0 z) h in λ i. record { told = e i; ram = ram; pcm = pcm })
-    (λ _. tested P (length pcm <? 4) (λ _ h. refl) (λ _ h. absurd (h refl))))) (λ _ h. refl)) (λ _ h. refl)
+    (λ _. tested P (length pcm <? 4) (λ _ h. refl) (λ _ h. absurd (h refl)))) (λ _ h. refl)) (λ _ h. refl)) (λ _ h. refl)
 
 rework-refused : (s : ℕ) (start end : Dsp) (ram log₁ log₂ sheet pcm readings : List ℕ) → reworkOf s start end ram log₁ log₂ sheet pcm readings .refusal ≢ 0
     → reworkOf s start end ram log₁ log₂ sheet pcm readings ≡ unreworked (reworkOf s start end ram log₁ log₂ sheet pcm readings .refusal) start sheet pcm readings
