@@ -2,8 +2,9 @@
 -- leaves the records behind it.
 use mathlib.Core.Bool.{_&&_}
 use mathlib.Core.List.{List, [], _∷_, _++_, append-assoc, append-nil}
+use mathlib.Core.Logic.{_≢_}
 use mathlib.Core.Path.{_≡_, refl, sym, ap, subst, _∙_}
-use Prim.Native.Nat.{ℕ, zero, suc, _+_, _-_, _*_, _/_, _≤_, _<_}
+use Prim.Native.Nat.{ℕ, zero, suc, _+_, _-_, _*_, _/_, _≤_}
 use native.Mathlib.Omega.{arith}
 use native.Mathlib.Nat.{add-suc, add-zero}
 use lib.ListN.{length, drop, length-append}
@@ -28,7 +29,7 @@ use Rattle.log.specs.declared.Next.{Next}
 use Rattle.log.specs.declared.Next.the-variants.{On, Off}
 use Rattle.log.proofs.Places.{opened-at, closed-at}
 use Rattle.sitting.specs.Play.{Run, registerIn, play, playAll, starting}
-use Rattle.sitting.specs.Parts.{Parted, untold, stopAt, recordAt, nextAt, ticksNow, sounding, partOf, Rest, restIn, restOf, ahead, PartAfterPart, PartsBegin, PartsEnd}
+use Rattle.sitting.specs.Parts.{Parted, untold, stopAt, recordAt, nextAt, ticksNow, sounding, logRefusal, partOf, Rest, restIn, restOf, ahead, PartAfterPart, PartsBegin, PartsEnd}
 use Rattle.sitting.specs.Run.{Outcome, runMeasured, runWith}
 use Rattle.sitting.specs.declared.parts.Heard.the-variants.{End}
 use Rattle.sitting.proofs.Runs.{all-unseen}
@@ -139,15 +140,17 @@ sound-after n d at left ram log pcm l =
 -- ---- by the tests of a part
 
 by-tests : (P : Parted → Type 0) (d : Dsp) (at left : ℕ) (ram log pcm : List ℕ)
-    → ((k : ℕ) → 0 < k → P (record { told = untold k d at left; ram = ram; pcm = pcm }))
+    → ((k : ℕ) → k ≢ 0 → P (record { told = untold k d at left; ram = ram; pcm = pcm }))
     → (left ≡ 0 → P (record { told = nextAt (readAt log at) d at; ram = ram; pcm = pcm }))
     → P (sounding (ticksNow left (length pcm)) d at left ram pcm)
     → P (partOf d at left ram log pcm)
 unfolding partOf
 by-tests P d at left ram log pcm refusal next sound =
-    tested P (length ram =? 0x10000) (λ _. tested P (fit d) (λ _. tested P (60000 <? length log) (λ _. refusal 3 (omega arith)) (λ _.
-    tested P (left =? 0) (λ e. next (eqb-true left 0 e)) (λ _. tested P (length pcm <? 4) (λ _. refusal 10 (omega arith)) (λ _. sound)))) (λ _. refusal 2 (omega arith)))
-    (λ _. refusal 1 (omega arith))
+    let owed : (k : ℕ) → suc k ≢ 0 = (λ k e. absurd (omega arith)) in
+    tested P (length ram =? 0x10000) (λ _. tested P (fit d) (λ _. tested P (logRefusal at log =? 0)
+    (λ _. tested P (left =? 0) (λ e. next (eqb-true left 0 e)) (λ _. tested P (length pcm <? 4) (λ _. refusal 10 (owed 9)) (λ _. sound)))
+    (λ e. refusal (logRefusal at log) (eqb-false (logRefusal at log) 0 e))) (λ _. refusal 2 (owed 1)))
+    (λ _. refusal 1 (owed 0))
 
 now-few : (left room : ℕ) → ticksNow left room ≤ left
 unfolding ticksNow
@@ -156,7 +159,7 @@ now-few left room = let a = least-both (room / 4) (least left 64) in let b = lea
 pub part-after-part : PartAfterPart
 part-after-part d at left ram log pcm =
     by-tests (After d at left ram log) d at left ram log pcm
-    (λ k h e. absurd (omega arith))
+    (λ k h e. absurd (h e))
     (λ z. subst (λ (l : ℕ). After d at l ram log (record { told = nextAt (readAt log at) d at; ram = ram; pcm = pcm })) (sym z) (next-after (readAt log at) d at ram log pcm refl))
     (sound-after (ticksNow left (length pcm)) d at left ram log pcm (now-few left (length pcm)))
 
