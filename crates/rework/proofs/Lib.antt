@@ -15,9 +15,10 @@ pub mod Beats
 pub mod Taken
 pub mod Keeps
 pub mod Faults
+pub mod Passed
 pub mod Refused
-pub mod Demand1
 pub mod Demand2
 pub mod Demand3
 pub mod Instance
 pub mod Demand3New
+pub mod Demand1

@@ -30,6 +30,14 @@ use Rattle.rework.specs.Members.{modesOf, quiet, voicesIn}
 use Rattle.rework.specs.Differ.{Outside, SameBut, Value}
 use Rattle.rework.specs.Rework.{setOf, Left, unreworked, reworkOf, reworkNewOf}
 
+-- ---- what the types say: a record of the language, and bytes
+
+abbrev pub IsRecord : Dsp → Type 0
+IsRecord d = Value (apart d)
+
+abbrev pub Bytes : List ℕ → Type 0
+Bytes log = (i : ℕ) → getD log i 0 < 256
+
 -- ---- 1: each entry refuses by document 01's table, and hands back what it got
 
 -- the refusal is the first of the entry's conditions that applies, 0 where none does; and a refused call leaves just this
@@ -37,12 +45,12 @@ abbrev pub Exactly : {A : Type 0} → (A → ℕ) → A → List ℕ → (ℕ �
 Exactly refusal answer conditions left = (refusal answer ≡ firstOf conditions) × (refusal answer ≢ 0 → answer ≡ left (refusal answer))
 
 -- "PCM 4, sheet 36 bytes a tick, one byte a reading"
+abbrev pub roomFor : ℕ → ℕ → List ℕ → List ℕ → List ℕ → List ℕ
+roomFor ticks readings pcm sheet told =
+    (10 when isNotAsLong pcm (ticks * 4)) ∷ (10 when isNotAsLong sheet (ticks * 36)) ∷ (10 when isNotAsLong told readings) ∷ []
+
 abbrev pub ofRoom : List ℕ → List ℕ → List ℕ → List ℕ → List ℕ
-ofRoom log pcm sheet readings =
-    (10 when isNotAsLong pcm (measureOf log .ticks * 4))
-    ∷ (10 when isNotAsLong sheet (measureOf log .ticks * 36))
-    ∷ (10 when isNotAsLong readings (measureOf log .readings))
-    ∷ []
+ofRoom log pcm sheet readings = roomFor (measureOf log .ticks) (measureOf log .readings) pcm sheet readings
 
 -- "Order: 1, 2, 3, then 4 to 9 at the first place in the log, then 12, 11, 10"
 abbrev pub ofRun : Dsp → List ℕ → List ℕ → List ℕ → List ℕ → List ℕ → List ℕ
@@ -100,18 +108,10 @@ pub record Demand1 : Type 0 where
   pub rework : (s : ℕ) (start end : Dsp) (ram log₁ log₂ pcm sheet readings : List ℕ)
       → Exactly (λ a. a .refusal) (reworkOf s start end ram log₁ log₂ pcm sheet readings) (ofRework s start end ram log₁ log₂ pcm sheet readings)
       (λ k. unreworked k start pcm sheet readings)
-  pub reworkNew : (s : ℕ) (ram log₁ log₂ pcm sheet readings : List ℕ)
+  pub reworkNew : (s : ℕ) (ram log₁ log₂ pcm sheet readings : List ℕ) → Bytes log₁ → Bytes log₂
       → Exactly (λ a. a .refusal) (reworkNewOf s ram log₁ log₂ pcm sheet readings)
       ((1 when ramIsNotWhole ram) ∷ ofLogs s newDsp log₁ log₂ pcm sheet readings)
       (λ k. unreworked k newDsp pcm sheet readings)
-
--- ---- what the types say: a record of the language, and bytes
-
-abbrev pub IsRecord : Dsp → Type 0
-IsRecord d = Value (apart d)
-
-abbrev pub Bytes : List ℕ → Type 0
-Bytes log = (i : ℕ) → getD log i 0 < 256
 
 -- ---- 2: from any fit record a run is the public entries one after another
 
