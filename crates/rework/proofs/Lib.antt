@@ -22,3 +22,5 @@ pub mod Demand3
 pub mod Instance
 pub mod Demand3New
 pub mod Demand1
+pub mod EveryCall
+pub mod Shows

@@ -14,7 +14,7 @@ unfolding listed
 length-listed f zero = refl
 length-listed f (suc n) = let e = length-listed f n in length-append (listed f n) (f n ∷ []) ∙ omega (arith, e)
 
-getD-listed : {A : Type 0} (f : ℕ → A) (n i : ℕ) (d : A) → i < n → getD (listed f n) i d ≡ f i
+pub getD-listed : {A : Type 0} (f : ℕ → A) (n i : ℕ) (d : A) → i < n → getD (listed f n) i d ≡ f i
 unfolding listed
 getD-listed f zero i d l = absurd (omega arith)
 getD-listed f (suc n) i d l =

@@ -4,3 +4,6 @@ pub mod Members
 pub mod Differ
 pub mod Rework
 pub mod Demands
+pub mod KeptFit
+pub mod Shown
+pub mod Order
