@@ -24,3 +24,4 @@ pub mod Demand3New
 pub mod Demand1
 pub mod EveryCall
 pub mod Shows
+pub mod Polls
