@@ -7,3 +7,4 @@ pub mod Demands
 pub mod KeptFit
 pub mod Shown
 pub mod Order
+pub mod NotThrough
