@@ -14,12 +14,12 @@ use crate::echo::put_pair;
 use crate::lane::Acc;
 use crate::lane::Shared;
 use crate::lane::lane;
-use crate::mix::bit;
 use crate::noise::Noise;
 use crate::registers::Answer;
 use crate::registers::Dsp;
 use crate::registers::Glob;
 use crate::voice::Voice;
+use numbers::bit;
 use sound::gauss_table;
 use sound::rate_table;
 

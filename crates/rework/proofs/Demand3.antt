@@ -172,7 +172,7 @@ demand3 s d₁ d₂ ram log₁ log₂ pcm₁ sheet₁ readings₁ pcm₂ sheet�
       ram-whole = f₂ .ram-whole;
       fits = f₂ .fits;
       taken = f₂ .taken;
-      heard = lp ∙ f₂ .heard;
+      sounds = lp ∙ f₂ .sounds;
       shown = filled a log₂ (t₁ .rows) sheet₂ (apart d₂) ram (f₂ .taken) s₁ (r .rows);
       told = lr ∙ f₂ .told;
     } in

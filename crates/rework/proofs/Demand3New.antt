@@ -72,7 +72,7 @@ module _ (s : ℕ) (ram log₁ log₂ pcm sheet readings : List ℕ) (b₁ : Byt
     fits-second =
         let t = same-totals u .0 in
         let q = same-totals u .1 in
-        record { ram-whole = f .ram-whole; fits = f .fits; taken = u .second; heard = f .heard ∙ ap (λ (k : ℕ). k * 4) t; shown = f .shown ∙ ap (λ (k : ℕ). k * 36) t; told = f .told ∙ q }
+        record { ram-whole = f .ram-whole; fits = f .fits; taken = u .second; sounds = f .sounds ∙ ap (λ (k : ℕ). k * 4) t; shown = f .shown ∙ ap (λ (k : ℕ). k * 36) t; told = f .told ∙ q }
 
     -- and the first run leaves as much as it was lent
     lengths : (length (first .pcm) ≡ length pcm) × (length (first .readings) ≡ length readings)
@@ -81,7 +81,7 @@ module _ (s : ℕ) (ram log₁ log₂ pcm sheet readings : List ℕ) (b₁ : Byt
         let p = taped everything (decode log₁ .records) (benchOf newDsp ram sheet) [] in
         let c = puts everything (decode log₁ .records) sheet (apart newDsp) ram in
         let m = measured-sums log₁ (u .first) in (
-          ap (λ (o : Outcome). length (o .pcm)) i ∙ ap length (p .pcm) ∙ c .pcm ∙ ap (λ (k : ℕ). k * 4) (sym (m .0)) ∙ sym (f .heard),
+          ap (λ (o : Outcome). length (o .pcm)) i ∙ ap length (p .pcm) ∙ c .pcm ∙ ap (λ (k : ℕ). k * 4) (sym (m .0)) ∙ sym (f .sounds),
           ap (λ (o : Outcome). length (o .readings)) i ∙ ap length (p .readings) ∙ c .readings ∙ sym (m .1) ∙ sym (f .told),
         )
 

@@ -9,8 +9,8 @@ use borrow.Author.Tests.{eqb-true, eqb-false}
 use lib.ListN.{getD, length}
 use Rattle.numbers.specs.Choice.{_=?_}
 use Rattle.numbers.proofs.Choice.{tested}
+use Rattle.numbers.specs.Bits.{bit}
 use Rattle.dsp.specs.Machine.{noVoice, Parts}
-use Rattle.dsp.specs.Mix.{bit}
 use Rattle.dsp.proofs.Tests.{lt, _and_}
 use Rattle.rework.specs.Differ.{Outside, SameBytes, SameBut}
 use Rattle.rework.specs.Rework.{picked, owns, endByte, pickedBytes, endOf}

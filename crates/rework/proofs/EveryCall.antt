@@ -9,9 +9,9 @@ use lib.ListN.{getD, length}
 use borrow.Author.Tests.{eqb-true}
 use Rattle.numbers.specs.Choice.{if_then_else_, _<?_, _=?_}
 use Rattle.numbers.proofs.Choice.{tested, chosen}
+use Rattle.numbers.specs.Bits.{bit}
 use Rattle.dsp.specs.Machine.{noVoice, newDsp, Parts, apart, together}
 use Rattle.dsp.specs.Fit.{fit, FitVoice, Fit}
-use Rattle.dsp.specs.Mix.{bit}
 use Rattle.dsp.specs.Registers.{Written, writeAt, writeOf}
 use Rattle.dsp.specs.Tick.{everything, tickOf, Bench, benchOf, benchTick, ticksOf, After, stepOf, Drove, driveOf}
 use Rattle.dsp.specs.declared.registers.Dsp.{Dsp}
@@ -72,10 +72,10 @@ run-fit w d ram log pcm sheet readings v b f =
     let o = runWith w d ram log pcm sheet readings in
     elim (ℕ-discrete (o .refusal) 0) [
       | yes z ↦
-        let g = unrefused w d ram log pcm sheet readings z in
-        let t = whole-tape w (beats (decode log .records)) sheet (apart d) ram (small-beats log b) (whole-start d ram v f (g .ram-whole)) in
-        let p = taped w (decode log .records) (benchOf d ram sheet) [] in
-        subst IsFit (sym (ap (λ (x : Outcome). x .dsp) (run-is w d ram log pcm sheet readings g) ∙ ap together (p .parts))) (whole-fit t)
+          let g = unrefused w d ram log pcm sheet readings z in
+          let t = whole-tape w (beats (decode log .records)) sheet (apart d) ram (small-beats log b) (whole-start d ram v f (g .ram-whole)) in
+          let p = taped w (decode log .records) (benchOf d ram sheet) [] in
+          subst IsFit (sym (ap (λ (x : Outcome). x .dsp) (run-is w d ram log pcm sheet readings g) ∙ ap together (p .parts))) (whole-fit t)
       | no z ↦ subst IsFit (sym (ap (λ (x : Outcome). x .dsp) (run-exactly w d ram log pcm sheet readings .1 z))) f
     ]
 

@@ -11,6 +11,8 @@ use lib.IntN.{ℤ}
 use lib.ListN.{getD, set, drop, replicate}
 use lib.Signed.{mag}
 use Rattle.numbers.specs.Choice.{_<?_}
+use Rattle.numbers.specs.Bits.{withBit}
+use Rattle.numbers.specs.Listed.{listed}
 use Rattle.sound.specs.Clock.{periods, periodOf}
 use Rattle.sound.specs.Noise.{shifted}
 use Rattle.dsp.specs.Machine.{noVoice, newDsp, apart}
@@ -21,12 +23,12 @@ use Rattle.sound.specs.Sound.{firSum, firOf}
 use Rattle.dsp.specs.Echo.{echoRead, historyNow, echoNow, echoWritten, lengthNow, pointerNext, echoMoved, echoTick, echoFrom, echoLane}
 use Rattle.dsp.specs.Envelope.{attackTick, gainTick, phaseTick, envelopeTick}
 use Rattle.dsp.specs.Fit.{fitVoices, fit}
-use Rattle.dsp.specs.Lane.{keyedOff, keyedOn, waited, noised, sourceOf, polledOf, waitedOf, cellAfter, cellOf, shownCell, withBit, putBytes, added, ownCell, turned}
-use Rattle.dsp.specs.Mix.{scaledOutput, heard as heardOut, dryTurn, dryOf, masterOf, renderOf}
+use Rattle.dsp.specs.Lane.{keyedOff, keyedOn, waited, noised, sourceOf, polledOf, waitedOf, cellAfter, cellOf, shownCell, putBytes, added, ownCell, turned}
+use Rattle.dsp.specs.Mix.{scaledOutput, withVoice, dryTurn, dryOf, masterOf, renderOf}
 use Rattle.dsp.specs.Noise.{noiseTick}
 use Rattle.dsp.specs.Registers.{silenceVoice, silenceAll, turns, writeParts, writeAt, writeOf}
 use Rattle.dsp.specs.Tick.{turn, voicesTick, globTick, sharedFrom, tickOf, benchTick, ticksOf, stepOf}
-use Rattle.dsp.specs.Voice.{pitchOf, positionOf, samplesTaken, filled, placed, decodedAt, nextAddress, nextBlock, resolved, heard, takeOne, consume, advanced, interpolated, sounded, voiceStep}
+use Rattle.dsp.specs.Voice.{pitchOf, positionOf, samplesTaken, filled, placed, decodedAt, nextAddress, nextBlock, resolved, pushed, takeOne, consume, advanced, interpolated, sounded, voiceStep}
 use Rattle.dsp.specs.declared.voice.Voice.{Voice}
 use Rattle.dsp.specs.declared.registers.Dsp.{Dsp}
 use Rattle.dsp.proofs.Tests.{lt, _and_}
@@ -35,7 +37,7 @@ use Rattle.log.specs.Measure.{measureOf}
 use Rattle.sitting.specs.Run.{Outcome, runOf, runMeasured, runWith}
 use Rattle.sitting.specs.Play.{play, playAll}
 use Rattle.rework.specs.Members.{modesOf, quiet, joinedBy, joinedOver, members, voicesIn}
-use Rattle.rework.specs.Rework.{Left, listed, picked, refusalOf, reworkOf}
+use Rattle.rework.specs.Rework.{Left, picked, refusalOf, reworkOf}
 use Rattle.rework.specs.Demands.{Bytes, Reworks}
 use Rattle.rework.specs.NotThrough.{ram, put, ticks, ask, end, unclamped, NotThrough}
 use Rattle.rework.specs.Alike.{without, sameRecord, sameRecords, alike}
@@ -98,39 +100,39 @@ differ-by : {A : Type 0} (f : A → ℕ) {x y : A} (m n : ℕ) → f x ≡ m →
 differ-by f m n p q d = λ e. d (sym p ∙ ap f e ∙ q)
 
 computed : Seen × NotThrough
-unfolding silenceVoice silenceAll firSum firOf echoRead historyNow echoNow heardOut dryTurn dryOf masterOf renderOf stepOf unclamped periods periodOf shifted byteAt wordAt decodeBlock tickDue echoWritten lengthNow pointerNext echoMoved echoTick echoFrom echoLane attackTick gainTick phaseTick envelopeTick fitVoices fit keyedOff keyedOn waited noised sourceOf polledOf waitedOf cellAfter cellOf shownCell withBit putBytes added ownCell turned scaledOutput noiseTick turns writeParts writeAt writeOf pairBytes laneBytes turn voicesTick globTick sharedFrom tickOf benchTick ticksOf pitchOf positionOf samplesTaken filled placed decodedAt nextAddress nextBlock resolved heard takeOne consume advanced interpolated sounded voiceStep writeRecord ticksRecord readingRecord byMark readAt decodeFrom decode measureOf play playAll runMeasured runWith without sameRecord sameRecords alike quiet joinedBy joinedOver members voicesIn listed picked refusalOf reworkOf
+unfolding silenceVoice silenceAll firSum firOf echoRead historyNow echoNow withVoice dryTurn dryOf masterOf renderOf stepOf unclamped periods periodOf shifted byteAt wordAt decodeBlock tickDue echoWritten lengthNow pointerNext echoMoved echoTick echoFrom echoLane attackTick gainTick phaseTick envelopeTick fitVoices fit keyedOff keyedOn waited noised sourceOf polledOf waitedOf cellAfter cellOf shownCell withBit putBytes added ownCell turned scaledOutput noiseTick turns writeParts writeAt writeOf pairBytes laneBytes turn voicesTick globTick sharedFrom tickOf benchTick ticksOf pitchOf positionOf samplesTaken filled placed decodedAt nextAddress nextBlock resolved pushed takeOne consume advanced interpolated sounded voiceStep writeRecord ticksRecord readingRecord byMark readAt decodeFrom decode measureOf play playAll runMeasured runWith without sameRecord sameRecords alike quiet joinedBy joinedOver members voicesIn listed picked refusalOf reworkOf
 computed = (
-      record {
-        members = refl;
-        count = refl;
-        lane-before = refl;
-        lane-after = refl;
-        position-before = refl;
-        position-after = refl;
-        readings-before = refl;
-        readings-after = refl;
-        lane-second = refl;
-        position-second = refl;
-        readings-second = refl;
-        logs = refl;
-        quiet-is = refl;
-        first-runs = refl;
-        second-runs = refl;
-      },
-      record {
-        taken = (refl, refl, refl, refl);
-        sounds = differ-by (λ (xs : List ℕ). getD xs 0 0) 0xF4 0 refl refl (λ e. absurd (omega (arith, e)));
-        moves = differ-by (λ (xs : List ℕ). getD xs 0 0) 0xF4 0xFA refl refl (λ e. absurd (omega (arith, e)));
-        steps = λ e. true≢false (ap (λ (d : Dsp). d .«every_other_sample») e);
-        goesOn = differ-by (λ (xs : List ℕ). getD xs 0 0) 0xFC 0 refl refl (λ e. absurd (omega (arith, e)));
-        rewrites = differ-by (λ (xs : List ℕ). getD xs 182 0) 0x40 0x7F refl refl (λ e. absurd (omega (arith, e)));
-        counts = (refl, refl);
-        onlyNamed = differ-by (λ (xs : List ℕ). getD xs 4 0) 0x55 0 refl refl (λ e. absurd (omega (arith, e)));
-        clampsEach = differ-by (mag) 253 31753 refl refl (λ e. absurd (omega (arith, e)));
-        keepsOn = differ-by (λ (v : Voice). v .«pitch_counter») 0x1000 0 refl refl (λ e. absurd (omega (arith, e)));
-        untouched = differ-by (λ (xs : List ℕ). getD xs 0 0) 0x7F 0 refl refl (λ e. absurd (omega (arith, e)));
-      },
-    )
+  record {
+    members = refl;
+    count = refl;
+    lane-before = refl;
+    lane-after = refl;
+    position-before = refl;
+    position-after = refl;
+    readings-before = refl;
+    readings-after = refl;
+    lane-second = refl;
+    position-second = refl;
+    readings-second = refl;
+    logs = refl;
+    quiet-is = refl;
+    first-runs = refl;
+    second-runs = refl;
+  },
+  record {
+    taken = (refl, refl, refl, refl);
+    sounds = differ-by (λ (xs : List ℕ). getD xs 0 0) 0xF4 0 refl refl (λ e. absurd (omega (arith, e)));
+    moves = differ-by (λ (xs : List ℕ). getD xs 0 0) 0xF4 0xFA refl refl (λ e. absurd (omega (arith, e)));
+    steps = λ e. true≢false (ap (λ (d : Dsp). d .«every_other_sample») e);
+    goesOn = differ-by (λ (xs : List ℕ). getD xs 0 0) 0xFC 0 refl refl (λ e. absurd (omega (arith, e)));
+    rewrites = differ-by (λ (xs : List ℕ). getD xs 182 0) 0x40 0x7F refl refl (λ e. absurd (omega (arith, e)));
+    counts = (refl, refl);
+    onlyNamed = differ-by (λ (xs : List ℕ). getD xs 4 0) 0x55 0 refl refl (λ e. absurd (omega (arith, e)));
+    clampsEach = differ-by (mag) 253 31753 refl refl (λ e. absurd (omega (arith, e)));
+    keepsOn = differ-by (λ (v : Voice). v .«pitch_counter») 0x1000 0 refl refl (λ e. absurd (omega (arith, e)));
+    untouched = differ-by (λ (xs : List ℕ). getD xs 0 0) 0x7F 0 refl refl (λ e. absurd (omega (arith, e)));
+  },
+)
 
 pub seen : Seen
 seen = computed .0

@@ -7,7 +7,7 @@ use native.Mathlib.Decide.{ℕ-discrete}
 use native.Mathlib.Numerals.{add-one}
 use lib.ListN.{getD, set, drop, length, length-append, length-set, List·getD-append, drop-of-length-le}
 use lib.Seq.{drop-cons, append-snoc, set-at, getD-at, ext-getD}
-use Rattle.rework.specs.Rework.{listed}
+use Rattle.numbers.specs.Listed.{listed}
 
 length-listed : {A : Type 0} (f : ℕ → A) (n : ℕ) → length (listed f n) ≡ n
 unfolding listed

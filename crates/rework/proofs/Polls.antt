@@ -14,13 +14,13 @@ use lib.Seq.{getD-set-same, getD-set-other}
 use Rattle.numbers.specs.Choice.{if_then_else_, _=?_}
 use Rattle.numbers.specs.Signed.{highZ}
 use Rattle.numbers.proofs.Choice.{chosen}
+use Rattle.numbers.specs.Bits.{bit, withBit}
 use Rattle.dsp.specs.Machine.{noVoice, Parts, apart}
 use Rattle.dsp.specs.Envelope.{isOff}
-use Rattle.dsp.specs.Mix.{bit}
 use Rattle.dsp.specs.Voice.{withKey}
 use Rattle.dsp.specs.Registers.{turns}
 use Rattle.dsp.specs.Sheet.{laneBytes}
-use Rattle.dsp.specs.Lane.{settingsOf, playOf, voiceOf, keyedOff, keyedOn, delayOf, waited, sourceOf, Cell, polledOf, waitedOf, cellAfter, cellOf, withBit, putEndx, putBytes, added, ownCell, turned}
+use Rattle.dsp.specs.Lane.{settingsOf, playOf, voiceOf, keyedOff, keyedOn, delayOf, waited, sourceOf, Cell, polledOf, waitedOf, cellAfter, cellOf, putEndx, putBytes, added, ownCell, turned}
 use Rattle.dsp.specs.Tick.{Round, turn, voicesTick, globTick, sharedFrom, sharedOf, everything, startOf, tickOf}
 use Rattle.dsp.specs.declared.adsr.EnvelopePhase.the-variants.{Release}
 use Rattle.dsp.specs.declared.lane.Acc.{Acc}
@@ -62,13 +62,13 @@ with-swap x n j a b l m q d =
     byte-ext _ _ (with-byte (withBit x j a) n b (with-byte x j a l q) m) (with-byte (withBit x n b) j a (with-byte x n b l m) q)
     (λ k h. elim (ℕ-discrete k n) [
       | yes p ↦
-        rw p (bit-here (withBit x j a) n b m ∙ sym (bit-there (withBit x n b) j n a q m d ∙ bit-here x n b m))
+          rw p (bit-here (withBit x j a) n b m ∙ sym (bit-there (withBit x n b) j n a q m d ∙ bit-here x n b m))
       | no p ↦
-        bit-there (withBit x j a) n k b m h p
-        ∙ elim (ℕ-discrete k j) [
-          | yes e ↦ rw e (bit-here x j a q ∙ sym (bit-here (withBit x n b) j a q))
-          | no e ↦ bit-there x j k a q h e ∙ sym (bit-there (withBit x n b) j k a q h e ∙ bit-there x n k b m h p)
-        ]
+          bit-there (withBit x j a) n k b m h p
+          ∙ elim (ℕ-discrete k j) [
+            | yes e ↦ rw e (bit-here x j a q ∙ sym (bit-here (withBit x n b) j a q))
+            | no e ↦ bit-there x j k a q h e ∙ sym (bit-there (withBit x n b) j k a q h e ∙ bit-there x n k b m h p)
+          ]
     ])
 
 -- ---- a poll, and the step behind it

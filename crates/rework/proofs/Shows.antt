@@ -9,12 +9,13 @@ use lib.IntN.{ℤ}
 use lib.ListN.{getD, set, length, length-set}
 use lib.Seq.{getD-set-same, getD-set-other}
 use Rattle.numbers.specs.Signed.{highZ}
+use Rattle.numbers.specs.Bits.{bit, withBit}
 use Rattle.dsp.specs.Machine.{noVoice, apart}
-use Rattle.dsp.specs.Mix.{bit, outputOf}
+use Rattle.dsp.specs.Mix.{outputOf}
 use Rattle.dsp.specs.Registers.{turns}
 use Rattle.dsp.specs.Sheet.{laneBytes, pairBytes}
 use Rattle.dsp.specs.Echo.{echoTick, echoMoved, echoLane}
-use Rattle.dsp.specs.Lane.{Cell, withBit, putBytes, cellAfter, cellOf, ownCell, turned}
+use Rattle.dsp.specs.Lane.{Cell, putBytes, cellAfter, cellOf, ownCell, turned}
 use Rattle.dsp.specs.Tick.{Round, turn, voicesTick, everything, startOf, sharedOf, tickOf}
 use Rattle.dsp.specs.declared.lane.Shared.{Shared}
 use Rattle.dsp.specs.declared.voice.Voice.{Voice}

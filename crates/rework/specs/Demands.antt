@@ -121,14 +121,14 @@ pub record Played : Type 0 where
   pub pcm : List ℕ
   pub readings : List ℕ
 
-abbrev pub heardAfter : Played → After → Played
-heardAfter p a =
+abbrev pub afterTick : Played → After → Played
+afterTick p a =
     record { dsp = a .dsp; ram = a .ram; pcm = p .pcm ++ pairBytes (renderOf (a .dsp) .left) (renderOf (a .dsp) .right); readings = p .readings }
 
 -- "a tick is `step`, then `render_audio_single`"
 unfoldable pub tickBy : ℕ → Played → Played
 tickBy zero p = p
-tickBy (suc n) p = heardAfter (tickBy n p) (stepOf (tickBy n p .dsp) (tickBy n p .ram))
+tickBy (suc n) p = afterTick (tickBy n p) (stepOf (tickBy n p .dsp) (tickBy n p .ram))
 
 -- RW is `write_reg`, QA is `read_reg`
 abbrev pub recordBy : Record → Played → Played

@@ -43,14 +43,14 @@ noise gain pmon =
 abbrev pcm : List ℕ
 pcm = replicate 28 0
 
-abbrev heard : Outcome
-heard = runOf newDsp ram (noise 0x7F 0) pcm (replicate 252 0) []
+abbrev noisy : Outcome
+noisy = runOf newDsp ram (noise 0x7F 0) pcm (replicate 252 0) []
 
 abbrev sampleAt : ℕ → List ℕ
-sampleAt t = take 4 (drop (t * 4) (heard .pcm))
+sampleAt t = take 4 (drop (t * 4) (noisy .pcm))
 
 abbrev rowAt : ℕ → List ℕ
-rowAt t = take 36 (drop (t * 36) (heard .sheet))
+rowAt t = take 36 (drop (t * 36) (noisy .sheet))
 
 -- ---- reworks of voice 0
 
@@ -123,7 +123,7 @@ silenced = runOf newDsp ram (put 0x6C 0x20 (put 0x07 0x7F (put 0x4C 0x01 (ticks 
 
 pub record NotThrough : Type 0 where
   -- "a chip that refuses all"
-  pub taken : (stepOf newDsp ram .refusal ≡ 0) × (renderOf newDsp .refusal ≡ 0) × (heard .refusal ≡ 0) × (again 0 (heard .dsp) (heard .sheet) .refusal ≡ 0)
+  pub taken : (stepOf newDsp ram .refusal ≡ 0) × (renderOf newDsp .refusal ≡ 0) × (noisy .refusal ≡ 0) × (again 0 (noisy .dsp) (noisy .sheet) .refusal ≡ 0)
   -- "silence or one fixed sample"
   pub sounds : sampleAt 5 ≢ 0 ∷ 0 ∷ 0 ∷ 0 ∷ []
   pub moves : sampleAt 5 ≢ sampleAt 6
@@ -132,7 +132,7 @@ pub record NotThrough : Type 0 where
   -- "a run that works its first tick and copies it on"
   pub goesOn : rowAt 5 ≢ rowAt 0
   -- "a rework that leaves the sheet as found"
-  pub rewrites : again 0 (heard .dsp) (heard .sheet) .sheet ≢ heard .sheet
+  pub rewrites : again 0 (noisy .dsp) (noisy .sheet) .sheet ≢ noisy .sheet
   -- "or reports an invented number of voices": without pitch modulation, and where PMON ties voice 1 to voice 0
   pub counts : (again 0 newDsp unmade .count ≡ 1) × (again 0x02 newDsp unmade .count ≡ 2)
   -- "one that reruns all eight voices"

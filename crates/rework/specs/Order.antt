@@ -6,10 +6,10 @@ use mathlib.Core.Path.{_≡_}
 use Prim.Native.Nat.{ℕ}
 use lib.ListN.{getD, set}
 use Rattle.numbers.specs.Choice.{if_then_else_, _<?_}
+use Rattle.numbers.specs.Bits.{bit}
 use Rattle.dsp.specs.Machine.{noVoice, Parts, apart}
 use Rattle.dsp.specs.Registers.{turns}
 use Rattle.dsp.specs.Noise.{noiseTick, noiseSample}
-use Rattle.dsp.specs.Mix.{bit}
 use Rattle.dsp.specs.Echo.{echoLane}
 use Rattle.dsp.specs.Lane.{playOf, voiceOf, keyedOff, keyedOn, delayOf, putEndx}
 use Rattle.dsp.specs.Tick.{Round, polls, voicesTick, everything, startOf, Ticked, mixed, tickOf}

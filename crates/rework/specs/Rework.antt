@@ -5,9 +5,9 @@ use Prim.Native.Nat.{ℕ, zero, suc, _-_, _/_, _%_}
 use lib.Bits.{bitAnd, bitOr}
 use lib.ListN.{getD, length}
 use Rattle.numbers.specs.Choice.{if_then_else_, _<?_, _=?_}
+use Rattle.numbers.specs.Bits.{bit}
 use Rattle.dsp.specs.Machine.{noVoice, newDsp, Parts, apart, together}
 use Rattle.dsp.specs.Fit.{fit}
-use Rattle.dsp.specs.Mix.{bit}
 use Rattle.dsp.specs.declared.registers.Dsp.{Dsp}
 use Rattle.dsp.specs.declared.tick.Work.{Work}
 use Rattle.log.specs.Log.{decode}
@@ -17,11 +17,6 @@ use Rattle.rework.specs.Alike.{alike}
 use Rattle.rework.specs.Members.{modesOf, quiet, members, voicesIn}
 
 -- ---- the end record: the old one, with the set's own parts of the new
-
--- f 0, f 1, .. f (n - 1)
-unfoldable pub listed : {A : Type 0} → (ℕ → A) → ℕ → List A
-listed f zero = []
-listed f (suc n) = listed f n ++ (f n ∷ [])
 
 -- of two arrays of eight, the elements of the set from the new
 unfoldable pub picked : {A : Type 0} → A → ℕ → List A → List A → List A

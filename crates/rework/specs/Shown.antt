@@ -4,8 +4,9 @@ use mathlib.Core.List.{List, [], _++_}
 use mathlib.Core.Path.{_≡_}
 use Prim.Native.Nat.{ℕ, zero, suc, _+_, _*_}
 use lib.ListN.{getD}
+use Rattle.numbers.specs.Bits.{bit}
 use Rattle.dsp.specs.Machine.{noVoice, apart, together}
-use Rattle.dsp.specs.Mix.{bit, outputOf}
+use Rattle.dsp.specs.Mix.{outputOf}
 use Rattle.dsp.specs.Sheet.{laneBytes, pairBytes}
 use Rattle.dsp.specs.Tick.{everything, tickOf}
 use Rattle.dsp.specs.declared.registers.Dsp.{Dsp}

@@ -5,9 +5,9 @@ ghost use lib.ListN.{length};
 ghost use Rattle.numbers.specs.Choice.{if_then_else_};
 ghost use Rattle.dsp.specs.Machine.{noVoice, apart, together};
 ghost use Rattle.rework.specs.Rework.{picked, endByte, pickedBytes, endOf};
-use crate::sets::bit;
 use dsp::Dsp;
 use dsp::Voice;
+use numbers::bit;
 
 fn voice_of(on: bool, new: Voice, old: Voice) -> Voice
     ensures { λ r. ⌜ r ≡ (if on then new else old) ⌝ }

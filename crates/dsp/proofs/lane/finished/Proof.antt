@@ -5,7 +5,8 @@ use Prim.Native.Nat.{_<_}
 use lib.Signed.{mag}
 use mir.Syntax.{w16}
 use Rattle.numbers.proofs.Range.{landed}
-use Rattle.dsp.specs.Mix.{bit, scaledOutput}
+use Rattle.numbers.specs.Bits.{bit}
+use Rattle.dsp.specs.Mix.{scaledOutput}
 use Rattle.dsp.specs.Lane.{noised, Waiting, cellFrom, cellAfter}
 use Rattle.dsp.specs.declared.play.Play.{Play}
 use Rattle.dsp.proofs.lane.finished.Statement.{statement}

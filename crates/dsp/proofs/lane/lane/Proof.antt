@@ -13,9 +13,6 @@ use Rattle.dsp.proofs.lane.lane.Tie as tie
 put-slot-requires : tie.Need-put-slot-requires
 put-slot-requires c κs = c .before .before .before .before .before .before .before .before .before .before .before .before .before .before .before .pre .7
 
-bit-requires : tie.Need-bit-requires
-bit-requires c κs = c .before .before .before .before .before .before .before .before .before .before .before .before .before .before .before .before .before .before .before .pre .4
-
 same-length : tie.Need-same-length
 same-length c = c .before .before .before .before .before .before .before .before .before .before .before .before .before .put-bytes .kept .0
 
@@ -44,7 +41,7 @@ lane-spec =
     (λ c κs. search needs)
     (λ c κs. search needs)
     put-slot-requires
-    bit-requires
+    (λ c κs. tt)
     (λ c κs. search needs)
     same-length
     (λ c. search needs)

@@ -28,7 +28,7 @@ stepped-spec =
     tie.close
     (tie.spec
     (λ c κs. c .before .before .pre .4)
-    (λ c κs. c .before .before .before .pre .4)
+    (λ c κs. tt)
     (λ c κs. search needs)
     (λ c κs. search needs)
     (λ c κs. c .before .before .before .before .before .before .pre .4)

@@ -4,7 +4,7 @@ use Prim.Native.Nat.{_-_}
 use native.Mathlib.Omega.{arith}
 use lib.ListN.{getD}
 use Rattle.numbers.specs.Choice.{if_then_else_}
-use Rattle.dsp.specs.Mix.{bit}
+use Rattle.numbers.specs.Bits.{bit}
 use Rattle.rework.specs.Rework.{picked}
 use Rattle.rework.proofs.Listed.{Stored, stored-none, stored-more, stored-at, stored-all}
 use Rattle.rework.proofs.ending.pick_delays.Statement.{statement}

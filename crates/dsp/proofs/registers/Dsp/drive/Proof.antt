@@ -107,7 +107,7 @@ loop-holds c = let h = c .before .before .before .before .before .before .before
           glob = rw (c .glob .ensures) (h .glob);
         };
     is = refl;
-    heard = unwritten _;
+    put-out = unwritten _;
     shown = unwritten _;
   },
 )
@@ -144,9 +144,6 @@ add-at c = let p = c .before .before .before .before .before .before .before .be
 
 add-to : tie.Need-add-to Inv-loop2 μ-loop2 Inv-loop μ-loop
 add-to c = let p = c .before .before .before .before .before .before .before .before .before .before .before .before .before .before .before .before .before .before .before .before .before .pre .2 in let t = c .before .before .before .before .before .before .before .loop-test .taken in let u = c .before .loop2-test .taken in record { fits = omega (arith, p, t, u) }
-
-bit-requires : tie.Need-bit-requires Inv-loop2 μ-loop2 Inv-loop μ-loop
-bit-requires c κs = c .before .loop2-test .taken
 
 array-read-lane : tie.Need-array-read-lane Inv-loop2 μ-loop2 Inv-loop μ-loop
 array-read-lane c = omega (arith, c .before .before .before .loop2 .inv .1 .fit .waits, c .before .before .loop2-test .taken)
@@ -269,7 +266,7 @@ returns c = let l = c .before .before .loop in
     let e₁ : l .i * 4 ≡ length (a .pcm .now) = omega (arith, n, s .pre .3) in
     let e₂ : l .i * 36 ≡ length (a .sheet .now) = omega (arith, n, s .pre .4) in
     let f = subst Fit (sym (c .with-parts .ensures)) (bench-fit _ (d .fit)) in
-    let e = (λ k. record { parts = apart (c .with-parts .ensures k); ram = l .ram; pcm = all-written (d .heard) e₁ k; sheet = all-written (d .shown) e₂ k; old = sym (drop-of-length-le (a .sheet .now) {i = l .i * 36} (omega (arith, e₂))) k })
+    let e = (λ k. record { parts = apart (c .with-parts .ensures k); ram = l .ram; pcm = all-written (d .put-out) e₁ k; sheet = all-written (d .shown) e₂ k; old = sym (drop-of-length-le (a .sheet .now) {i = l .i * 36} (omega (arith, e₂))) k })
     ∙ d .is
     ∙ (λ k. ticksOf (a .work) (n k) (benchAt (partsOf (c .before .before .before .before .before .before .before .before .bytes .ensures k) (c .before .before .before .before .before .before .before .lanes .ensures k) (c .before .before .before .before .before .before .delays .ensures k) (a .self .«fir_coeff») (a .self .«fir_history_l») (a .self .«fir_history_r») (c .before .before .before .glob .ensures k)) (a .ram .now) [] [] (a .sheet .now))) in
     (e, f)
@@ -302,7 +299,7 @@ drive-spec =
     mul-at-2
     add-at
     add-to
-    bit-requires
+    (λ c κs. tt)
     array-read-lane
     slice-aggregate-lane
     slice-aggregate-lane-2
