@@ -52,9 +52,7 @@ fn command(words: &[&str]) -> Result<(), String> {
             print(b"selfcheck: P1 to P11 hold\n")
         }
         ["differs"] => print(page::report(page::PAGE).as_bytes()),
-        ["differs", "shorter", name] => {
-            print(page::report_shorter(page::PAGE, name).as_bytes())
-        }
+        ["differs", "shorter", name] => print(page::report_shorter(page::PAGE, name).as_bytes()),
         ["run", log, ram, outputs @ ..] if outputs.len() <= 2 => run(log, ram, outputs),
         ["make", kind, seed, log, ram] => make(kind, seed, log, ram),
         ["trace", cases, folder] => trace(cases, folder),

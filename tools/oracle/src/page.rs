@@ -254,10 +254,16 @@ mod tests {
         assert_eq!(images[1].1, vec![0; RAM_SIZE]);
         let logs = logs(page);
         let names: Vec<_> = logs.iter().map(|log| (log.name, log.image)).collect();
-        assert_eq!(names, [("differs-a", 1), ("differs-b", 2), ("differs-d", 2)]);
+        assert_eq!(
+            names,
+            [("differs-a", 1), ("differs-b", 2), ("differs-d", 2)]
+        );
         assert_eq!(logs[0].records.len(), 3);
         assert_eq!(logs[0].records[1], Record::Ticks(12));
-        assert_eq!((&logs[0].reads[..], &logs[1].reads[..]), (&[1][..], &[][..]));
+        assert_eq!(
+            (&logs[0].reads[..], &logs[1].reads[..]),
+            (&[1][..], &[][..])
+        );
         let lines = "differs-a:01:01:00\ndiffers-b:::\ndiffers-d:E0 00:E0 00:01 02/03 04\n";
         assert_eq!(report(page), lines);
     }

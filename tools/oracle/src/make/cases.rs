@@ -144,7 +144,10 @@ mod tests {
         let made = cases("directed", 3, 1).unwrap();
         let named = made.names.lines().count();
         assert_eq!(made.cases.len(), named + 3);
-        assert_eq!(made.rams.len(), 1 + IMAGES_STORED + directed::later_rams().len());
+        assert_eq!(
+            made.rams.len(),
+            1 + IMAGES_STORED + directed::later_rams().len()
+        );
         let images: Vec<_> = made.cases[named..].iter().map(|case| case.ram).collect();
         assert!(images.iter().all(|image| [1, 2].contains(image)));
     }

@@ -10,7 +10,13 @@ pub fn cases() -> Vec<(&'static str, Case)> {
     let case = |log: page::Log<'static>| {
         let records = [&log.records[..], &[Record::End]].concat();
         let (ram, log_bytes) = (log.image, encode(&records));
-        (log.name, Case { ram, log: log_bytes })
+        (
+            log.name,
+            Case {
+                ram,
+                log: log_bytes,
+            },
+        )
     };
     page::logs(PAGE).into_iter().map(case).collect()
 }
@@ -30,7 +36,10 @@ mod tests {
     #[test]
     fn cases_have_the_numbers_of_the_page() {
         let made = cases::cases("directed", 12, 1).unwrap();
-        let first = made.names.lines().position(|line| line.contains("differs-"));
+        let first = made
+            .names
+            .lines()
+            .position(|line| line.contains("differs-"));
         let (before, count) = (first.unwrap(), super::cases().len());
         assert_eq!(made.names.lines().count(), before + count);
         let words = format!("cases {} to {}", before + 1, before + count);
@@ -48,7 +57,10 @@ mod tests {
             assert_eq!(&rams[usize::from(*number)], ram);
         }
         for (name, case) in super::cases() {
-            assert!(images.iter().any(|(number, _)| *number == case.ram), "{name}");
+            assert!(
+                images.iter().any(|(number, _)| *number == case.ram),
+                "{name}"
+            );
         }
     }
 }
