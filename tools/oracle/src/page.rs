@@ -213,12 +213,35 @@ mod tests {
         }
     }
 
-    /// What differs by the public rule is not what we read.
+    /// Each log that stands on the page is one of those that are held.
+    #[test]
+    fn no_log_stands_elsewhere() {
+        let codes = PAGE.split('`').skip(1).step_by(2);
+        let marks = ["RW ", "TK ", "QA "];
+        let written = codes.filter(|code| marks.iter().any(|mark| code.starts_with(mark)));
+        assert_eq!(written.count(), logs(PAGE).len());
+    }
+
+    /// What differs by the public rule is not what we read, and few logs
+    /// have no such reading.
     #[test]
     fn the_public_rule_reads_otherwise() {
-        for log in logs(PAGE) {
+        let logs = logs(PAGE);
+        for log in &logs {
             assert!(!log.public.contains(&log.reads), "{}", log.name);
         }
+        let (from_the_rust, others): (Vec<_>, Vec<_>) = logs
+            .iter()
+            .partition(|log| log.name.starts_with("differs-00-"));
+        assert!(from_the_rust.iter().all(|log| log.public.is_empty()));
+        let unsaid = others.iter().filter(|log| log.public.is_empty());
+        let names: Vec<_> = unsaid.map(|log| log.name).collect();
+        let wanted = [
+            "differs-10-reset-delay",
+            "differs-13-esa",
+            "differs-13-esa-kept",
+        ];
+        assert_eq!(names, wanted);
     }
 
     /// "A `voices[0].pitch` of `$FFFF` plays as `$3FFF`."
