@@ -23,7 +23,7 @@ use numbers::bit;
 use sound::gauss_table;
 use sound::rate_table;
 
-const RAM_SIZE: usize = 0x10000;
+pub const RAM_SIZE: usize = 0x10000;
 
 // Which lanes of the sheet a tick works: voices by their bits, and the echo. It shows the others as the sheet has them.
 pub struct Work {

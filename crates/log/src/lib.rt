@@ -5,7 +5,7 @@ ghost use lib.ListN.{length};
 ghost use Rattle.log.specs.Log.{writeRecord, ticksRecord, readingRecord, byMark, readAt, Moves};
 ghost use Rattle.log.specs.Measure.{ticksIn, readingsIn, endedAt, unmeasured, measureOf};
 
-const LOG_MOST: usize = 60000;
+pub const LOG_MOST: usize = 60000;
 
 const TICKS_MOST: u32 = 32000;
 

@@ -10,13 +10,12 @@ use crate::likeness::are_alike;
 use crate::modes::Modes;
 use crate::sets::count;
 use dsp::Dsp;
+use dsp::RAM_SIZE;
 use dsp::Work;
 use log::measure;
 use numbers::copy;
 use sitting::run_new;
 use sitting::run_with;
-
-const RAM_SIZE: usize = 0x10000;
 
 // 0 or the refusal, the end record, the set A, and the number of voices in it.
 pub struct Reworked {
@@ -102,10 +101,10 @@ fn checked(
     }
 }
 
-fn blank_ram() -> [u8; 0x10000]
+fn blank_ram() -> [u8; RAM_SIZE]
     ensures { λ r. ⌜ length r ≡ 0x10000 ⌝ }
 {
-    [0; 0x10000]
+    [0; RAM_SIZE]
 }
 
 // Works A's voices alone, from the first tick, over the old sheet and end record. RAM is read only, so that the run has a copy.

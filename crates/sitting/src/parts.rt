@@ -8,14 +8,12 @@ ghost use Rattle.log.specs.Log.{readAt, Known};
 ghost use Rattle.sitting.specs.Parts.{Parted, toldBy, telling, untold, stopAt, recordAt, nextAt, ticksNow, sounding, logRefusal, partOf, Goes};
 use crate::running::everything;
 use dsp::Dsp;
+use dsp::RAM_SIZE;
+use log::LOG_MOST;
 use log::Next;
 use log::Record;
 use log::measure;
 use log::read;
-
-const RAM_SIZE: usize = 0x10000;
-
-const LOG_MOST: usize = 60000;
 
 // So many ticks go in one call of the chip at most, as a sheet of so many rows is kept aside.
 const TICKS_AT_ONCE: u16 = 64;
