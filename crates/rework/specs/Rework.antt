@@ -6,6 +6,7 @@ use lib.Bits.{bitAnd, bitOr}
 use lib.ListN.{getD, length}
 use Rattle.numbers.specs.Choice.{if_then_else_, _<?_, _=?_}
 use Rattle.numbers.specs.Bits.{bit}
+use Rattle.numbers.specs.Listed.{listed}
 use Rattle.dsp.specs.Machine.{noVoice, newDsp, Parts, apart, together}
 use Rattle.dsp.specs.Fit.{fit}
 use Rattle.dsp.specs.declared.registers.Dsp.{Dsp}
