@@ -2,10 +2,9 @@
 // of a u16, the bits of a byte, and sums and differences that wrap or stop at an end. And a copy of bytes.
 ghost use mathlib.Core.Path.{_≡_};
 ghost use lib.IntN.{pos};
-ghost use Prim.Native.Nat.{_+_, _-_};
+ghost use Prim.Native.Nat.{_+_, _-_, _%_};
 ghost use Rattle.numbers.specs.Bits.{bit, withBit};
 ghost use Rattle.numbers.specs.Bytes.{copied};
-ghost use Rattle.numbers.specs.Choice.{if_then_else_, _<?_};
 ghost use Rattle.numbers.specs.Signed.{clamp16Z, cutZ, lowZ, highZ};
 ghost use Rattle.numbers.specs.Unsigned.{withLow, withHigh, wrapped, least};
 
@@ -71,21 +70,18 @@ pub fn with_high(x: u16, hi: u8) -> u16
     hi as u16 * 256 + x % 256
 }
 
-// Bit n of a byte; it has none from 8 up.
+// Bit n of a byte, n modulo 8.
 pub fn bit(x: u8, n: usize) -> bool
-    ensures { λ r. ⌜ r ≡ bit x n ⌝ }
+    ensures { λ r. ⌜ r ≡ bit x (n % 8) ⌝ }
 {
-    if n < 8 { (x >> n) % 2 == 1 } else { false }
+    (x >> (n % 8)) % 2 == 1
 }
 
-// A byte with bit n as given; where it has no bit n it stays.
+// A byte with bit n as given, n modulo 8.
 pub fn with_bit(x: u8, n: usize, on: bool) -> u8
-    ensures { λ r. ⌜ r ≡ (if n <? 8 then withBit x n on else x) ⌝ }
+    ensures { λ r. ⌜ r ≡ withBit x (n % 8) on ⌝ }
 {
-    if 8 <= n {
-        return x;
-    }
-    let mask: u8 = 1 << n;
+    let mask: u8 = 1 << (n % 8);
     if on { x | mask } else { x & (255 - mask) }
 }
 

@@ -1,5 +1,6 @@
 -- The callees, with the read-backs removed.
 use borrow.Author.Needs.{needs}
+use native.Mathlib.Nat.{mod-eq-of-lt}
 use mathlib.Core.Path.{_≡_, _∙_, ap}
 use Prim.Native.Nat.{_<_}
 use lib.Signed.{mag}
@@ -21,8 +22,10 @@ sample-small c = c .struct-told2 .given .1 .1 .1 .1 .1 .1 .1 .1 .1 .0 .1
 
 is-noised : (c : tie.After-noised) → c .noised .result ≡ noised (bit (c .before .before .before .before .args .c .non) (c .before .before .before .before .args .j)) (c .before .before .before .before .args .c .noise) (c .before .before .before .before .args .h .play)
 is-noised c =
-    let a = c .before .before .before .before .args in
-    c .noised .ensures ∙ (λ i. noised (c .before .before .bit .ensures i) (landed w16 {z = a .c .noise} (noise-small (c .before)) i) (a .h .play))
+    let s = c .before .before .before .before in
+    let a = s .args in
+    let non = rw (mod-eq-of-lt (s .pre .0)) at (c .before .before .bit .ensures) in
+    c .noised .ensures ∙ (λ i. noised (non i) (landed w16 {z = a .c .noise} (noise-small (c .before)) i) (a .h .play))
 
 scaled-output-requires : tie.Need-scaled-output-requires
 unfolding noised

@@ -1,5 +1,6 @@
 -- The callees, with the read-backs removed.
 use borrow.Author.Needs.{needs}
+use native.Mathlib.Nat.{mod-eq-of-lt}
 use mathlib.Core.Path.{_∙_, ap}
 use mir.Syntax.{w8, w16}
 use Rattle.numbers.specs.Choice.{if_then_else_}
@@ -18,7 +19,9 @@ same-length c = c .before .before .before .before .before .before .before .befor
 
 returns : tie.Need-returns
 unfolding turned
-returns c = let a = c .before .before .before .before .before .before .before .before .before .before .before .before .before .before .before .before .before .before .before .before .before .before .before .before .args in
+returns c = let s = c .before .before .before .before .before .before .before .before .before .before .before .before .before .before .before .before .before .before .before .before .before .before .before .before in
+    let a = s .args in
+    let eon = rw (mod-eq-of-lt (s .pre .4)) at (c .before .before .before .before .bit .ensures) in
     let x = c .before .before .before .before .before .before .before .before .before .before .before .before .before .before .before .before .cell .result in
     let o = landed w16 {z = x .out} (c .before .before .before .before .before .before .before .before .before .before .before .before .before .before .struct-told2 .given .1 .1 .0 .1) in
     let l = landed w8 {z = x .voice .«left_vol»} (c .before .before .struct-told5 .given .0 .1) in
@@ -27,7 +30,7 @@ returns c = let a = c .before .before .before .before .before .before .before .b
     (λ i. record {
       voice = x .voice;
       delay = x .delay;
-      acc = (c .added .ensures ∙ (λ k. added (c .before .before .before .before .bit .ensures k) (o k) (l k) (r k) (a .acc))) i;
+      acc = (c .added .ensures ∙ (λ k. added (eon k) (o k) (l k) (r k) (a .acc))) i;
       bytes = (c .before .before .before .before .before .before .before .before .before .before .before .before .before .put-bytes .ensures ∙ (λ k. putBytes (a .j) (x .envx) (o k) (x .endx) (a .bytes .now))) i;
       slot = (c .before .before .before .before .before .before .before .before .put-slot .ensures ∙ (λ k. if a .worked then laneBytes (o k) (x .envx) (x .endx) else a .slot .now)) i;
     })

@@ -1,5 +1,6 @@
 -- The callees, with the read-backs removed; a fit voice has a level that keeps its output to 16 bits.
 use borrow.Author.Needs.{needs}
+use native.Mathlib.Nat.{mod-eq-of-lt}
 use mathlib.Core.Path.{_∙_, sym, ap, subst}
 use Prim.Native.Nat.{_+_, _*_, _≤_}
 use lib.ListN.{getD}
@@ -25,7 +26,8 @@ unfolding ownCell cellOf
 returns c = let s = c .before .before .before .before .before .before .before .before .before .before .before .before .before in
     let a = s .args in
     let e = toZ-ofZ w16 (a .prev) (s .fits .prev) in
-    let w = c .before .before .stepped .ensures ∙ (λ i. waitedOf (a .c) (a .ram .now) (a .j) (e i) (a .v) (a .delay) (getD (a .bytes .now) (a .j * 16 + 4) 0) (getD (a .bytes .now) (a .j * 16 + 8) 0) (c .before .before .before .before .before .before .bit .ensures i) (c .before .before .before .before .samples .ensures i)) in
+    let endx = rw (mod-eq-of-lt (s .pre .4)) at (c .before .before .before .before .before .before .bit .ensures) in
+    let w = c .before .before .stepped .ensures ∙ (λ i. waitedOf (a .c) (a .ram .now) (a .j) (e i) (a .v) (a .delay) (getD (a .bytes .now) (a .j * 16 + 4) 0) (getD (a .bytes .now) (a .j * 16 + 8) 0) (endx i) (c .before .before .before .before .samples .ensures i)) in
     c .finished .ensures ∙ ap (cellAfter (a .c) (a .j) (a .v)) w
 
 pub own-cell-spec : {M : Type 1} → statement M

@@ -1,6 +1,7 @@
 -- After v lanes the round and its row are the definition's after v turns; after i ticks, parts, samples and rows are the definition's after i ticks.
 
 use borrow.Author.Needs.{needs}
+use native.Mathlib.Nat.{mod-eq-of-lt}
 use mathlib.Core.List.{List, []}
 use mathlib.Core.Path.{_≡_, refl, sym, ap, subst, _∙_}
 use Prim.Native.Nat.{ℕ, _+_, _-_, _*_, _≤_, _<_}
@@ -183,9 +184,10 @@ loop2-again : tie.Need-loop2-again Inv-loop2 μ-loop2 Inv-loop μ-loop
 loop2-again c = let l = c .before .before .before .before .before .before .before .before .before .before .before .before .before .before .loop2 in
     let i = c .before .before .before .before .before .before .before .before .before .before .before .before .before .before .before .before .before .before .before .before .loop .i in
     let t : l .v < 8 = c .before .before .before .before .before .before .before .before .before .before .before .before .before .loop2-test .taken in
+    let worked = rw (mod-eq-of-lt t) at (c .before .before .before .before .before .before .before .before .before .before .before .bit .ensures) in
     let at = i * 36 + l .v * 4 in
     let m = mid-len at (at + 4) (l .sheet) (lane-room (c .before .before .before .before .before .before .before .before .before .before .before .before)) in
-    let e = c .before .before .before .before .before .lane .ensures ∙ (λ k. turned (c .before .before .before .before .before .before .before .before .before .before .before .bit .ensures k) (c .before .before .before .before .before .before .before .before .before .before .before .before .before .before .before .before .shared .result) (c .before .before .before .before .before .before .before .before .before .before .before .before .before .before .before .before .before .before .before .before .loop .ram) (l .v) (getD (l .voices) (l .v) noVoice) (getD (l .delays) (l .v) 0) (l .acc) (l .bytes) (midOf at (at + 4 - at) (l .sheet))) in
+    let e = c .before .before .before .before .before .lane .ensures ∙ (λ k. turned (worked k) (c .before .before .before .before .before .before .before .before .before .before .before .before .before .before .before .before .shared .result) (c .before .before .before .before .before .before .before .before .before .before .before .before .before .before .before .before .before .before .before .before .loop .ram) (l .v) (getD (l .voices) (l .v) noVoice) (getD (l .delays) (l .v) 0) (l .acc) (l .bytes) (midOf at (at + 4 - at) (l .sheet))) in
     (search needs, lane-on _ _ _ _ (i * 36) _ (l .v) (l .sheet) (l .voices) (l .delays) (l .bytes) (l .acc) at (at + 4) _ (l .inv .1) t refl refl (m ∙ omega arith) e)
 
 mul-at-3 : tie.Need-mul-at-3 Inv-loop2 μ-loop2 Inv-loop μ-loop
