@@ -38,6 +38,7 @@ use Rattle.sitting.specs.Run.{Outcome, runOf, runMeasured, runWith}
 use Rattle.sitting.specs.Play.{play, playAll}
 use Rattle.rework.specs.Members.{modesOf, quiet, joinedBy, joinedOver, members, voicesIn}
 use Rattle.rework.specs.Rework.{Left, picked, refusalOf, reworkOf}
+use Rattle.rework.specs.Refusals.{firstOf}
 use Rattle.rework.specs.Demands.{Bytes, Reworks}
 use Rattle.rework.specs.NotThrough.{ram, put, ticks, ask, end, unclamped, NotThrough}
 use Rattle.rework.specs.Alike.{without, sameRecord, sameRecords, alike}
@@ -100,7 +101,7 @@ differ-by : {A : Type 0} (f : A → ℕ) {x y : A} (m n : ℕ) → f x ≡ m →
 differ-by f m n p q d = λ e. d (sym p ∙ ap f e ∙ q)
 
 computed : Seen × NotThrough
-unfolding silenceVoice silenceAll firSum firOf echoRead historyNow echoNow withVoice dryTurn dryOf masterOf renderOf stepOf unclamped periods periodOf shifted byteAt wordAt decodeBlock tickDue echoWritten lengthNow pointerNext echoMoved echoTick echoFrom echoLane attackTick gainTick phaseTick envelopeTick fitVoices fit keyedOff keyedOn waited noised sourceOf polledOf waitedOf cellAfter cellOf shownCell withBit putBytes added ownCell turned scaledOutput noiseTick turns writeParts writeAt writeOf pairBytes laneBytes turn voicesTick globTick sharedFrom tickOf benchTick ticksOf pitchOf positionOf samplesTaken filled placed decodedAt nextAddress nextBlock resolved pushed takeOne consume advanced interpolated sounded voiceStep writeRecord ticksRecord readingRecord byMark readAt decodeFrom decode measureOf play playAll runMeasured runWith without sameRecord sameRecords alike quiet joinedBy joinedOver members voicesIn listed picked refusalOf reworkOf
+unfolding firstOf silenceVoice silenceAll firSum firOf echoRead historyNow echoNow withVoice dryTurn dryOf masterOf renderOf stepOf unclamped periods periodOf shifted byteAt wordAt decodeBlock tickDue echoWritten lengthNow pointerNext echoMoved echoTick echoFrom echoLane attackTick gainTick phaseTick envelopeTick fitVoices fit keyedOff keyedOn waited noised sourceOf polledOf waitedOf cellAfter cellOf shownCell withBit putBytes added ownCell turned scaledOutput noiseTick turns writeParts writeAt writeOf pairBytes laneBytes turn voicesTick globTick sharedFrom tickOf benchTick ticksOf pitchOf positionOf samplesTaken filled placed decodedAt nextAddress nextBlock resolved pushed takeOne consume advanced interpolated sounded voiceStep writeRecord ticksRecord readingRecord byMark readAt decodeFrom decode measureOf play playAll runMeasured runWith without sameRecord sameRecords alike quiet joinedBy joinedOver members voicesIn listed picked refusalOf reworkOf
 computed = (
   record {
     members = refl;

@@ -10,20 +10,21 @@ use lib.IntN.{pos}
 use lib.ListN.{getD, length, drop}
 use Rattle.numbers.specs.Choice.{if_then_else_, _<?_, _=?_}
 use Rattle.dsp.specs.Machine.{newDsp, apart}
-use Rattle.dsp.specs.Registers.{writeOf}
-use Rattle.dsp.specs.Mix.{renderOf}
+use Rattle.dsp.specs.Registers.{Written, writeOf}
+use Rattle.dsp.specs.Mix.{Rendered, renderOf}
 use Rattle.dsp.specs.Sheet.{pairBytes, laneAt}
-use Rattle.dsp.specs.Tick.{After, refused, stepOf, undriven, driveOf}
+use Rattle.dsp.specs.Tick.{After, refused, stepOf, Drove, undriven, driveOf}
 use Rattle.dsp.specs.declared.registers.Dsp.{Dsp}
 use Rattle.dsp.specs.declared.tick.Work.{Work}
 use Rattle.log.specs.Log.{readAt, decode}
 use Rattle.log.specs.Measure.{measureOf, unmeasured}
 use Rattle.log.specs.declared.Record.{Record}
 use Rattle.log.specs.declared.Record.the-variants.{Write, Ticks, Reading}
+use Rattle.log.specs.declared.Measured.{Measured}
 use Rattle.log.specs.declared.Next.{Next}
 use Rattle.log.specs.declared.Next.the-variants.{On, Off}
 use Rattle.sitting.specs.Run.{Outcome, unrun, runWith, runOf}
-use Rattle.sitting.specs.Parts.{unparted, partOf}
+use Rattle.sitting.specs.Parts.{Parted, unparted, partOf}
 use Rattle.rework.specs.Refusals.{_when_, firstOf, ramIsNotWhole, isUnfit, isTooLong, isNotAsLong, faultOf}
 use Rattle.rework.specs.Alike.{without, alike}
 use Rattle.rework.specs.Members.{modesOf, quiet, voicesIn}
@@ -89,29 +90,59 @@ abbrev pub ofRework : ℕ → Dsp → Dsp → List ℕ → List ℕ → List ℕ
 ofRework s start end ram log₁ log₂ pcm sheet readings =
     (1 when ramIsNotWhole ram) ∷ (2 when isUnfit start) ∷ (2 when isUnfit end) ∷ ofLogs s start log₁ log₂ pcm sheet readings
 
+-- what the entries give: `run` is `run_with` with every lane, `run_new` that from `new`
+pub record Chip : Type 0 where
+  pub write : ℕ → ℕ → Dsp → Written
+  pub render : Dsp → Rendered
+  pub step : Dsp → List ℕ → After
+  pub ticks : Work → ℕ → Dsp → List ℕ → List ℕ → List ℕ → Drove
+  pub measure : List ℕ → Measured
+  pub run : Work → Dsp → List ℕ → List ℕ → List ℕ → List ℕ → List ℕ → Outcome
+  pub part : Dsp → ℕ → ℕ → List ℕ → List ℕ → List ℕ → Parted
+  pub rework : ℕ → Dsp → Dsp → List ℕ → List ℕ → List ℕ → List ℕ → List ℕ → List ℕ → Left
+  pub reworkNew : ℕ → List ℕ → List ℕ → List ℕ → List ℕ → List ℕ → List ℕ → Left
+
+-- ours: the definitions that the contracts cite
+abbrev pub ours : Chip
+ours =
+    record {
+      write = writeOf;
+      render = renderOf;
+      step = stepOf;
+      ticks = driveOf;
+      measure = measureOf;
+      run = runWith;
+      part = partOf;
+      rework = reworkOf;
+      reworkNew = reworkNewOf;
+    }
+
 -- "a refusal answers its number, the record given (in rework the new start record; `new` where none is given) and zeros elsewhere; RAM,
--- sheet and outputs keep their bytes". (`run` is `runWith everything`, `run_new` that from `new`.)
-pub record Demand1 : Type 0 where
-  pub write : (index x : ℕ) (d : Dsp) → Exactly (λ a. a .refusal) (writeOf index x d) ((2 when isUnfit d) ∷ []) (λ k. record { refusal = k; dsp = d })
-  pub render : (d : Dsp) → Exactly (λ a. a .refusal) (renderOf d) ((2 when isUnfit d) ∷ []) (λ k. record { refusal = k; left = pos 0; right = pos 0 })
+-- sheet and outputs keep their bytes".
+pub record RefusesByTheTable (chip : Chip) : Type 0 where
+  pub write : (index x : ℕ) (d : Dsp) → Exactly (λ a. a .refusal) (chip .write index x d) ((2 when isUnfit d) ∷ []) (λ k. record { refusal = k; dsp = d })
+  pub render : (d : Dsp) → Exactly (λ a. a .refusal) (chip .render d) ((2 when isUnfit d) ∷ []) (λ k. record { refusal = k; left = pos 0; right = pos 0 })
   pub step : (d : Dsp) (ram : List ℕ)
-      → Exactly (λ a. a .refusal) (stepOf d ram) ((1 when ramIsNotWhole ram) ∷ (2 when isUnfit d) ∷ []) (λ k. refused k d ram)
+      → Exactly (λ a. a .refusal) (chip .step d ram) ((1 when ramIsNotWhole ram) ∷ (2 when isUnfit d) ∷ []) (λ k. refused k d ram)
   pub ticks : (w : Work) (n : ℕ) (d : Dsp) (ram pcm sheet : List ℕ)
-      → Exactly (λ a. a .refusal) (driveOf w n d ram pcm sheet)
+      → Exactly (λ a. a .refusal) (chip .ticks w n d ram pcm sheet)
       ((1 when ramIsNotWhole ram) ∷ (2 when isUnfit d) ∷ (10 when isNotAsLong pcm (n * 4)) ∷ (10 when isNotAsLong sheet (n * 36)) ∷ [])
       (λ k. undriven k d ram pcm sheet)
-  pub measure : (log : List ℕ) → Exactly (λ a. a .refusal) (measureOf log) ((3 when isTooLong log) ∷ faultOf log ∷ []) unmeasured
+  pub measure : (log : List ℕ) → Exactly (λ a. a .refusal) (chip .measure log) ((3 when isTooLong log) ∷ faultOf log ∷ []) unmeasured
   pub run : (w : Work) (d : Dsp) (ram log pcm sheet readings : List ℕ)
-      → Exactly (λ a. a .refusal) (runWith w d ram log pcm sheet readings) (ofRun d ram log pcm sheet readings) (λ k. unrun k d ram pcm sheet readings)
+      → Exactly (λ a. a .refusal) (chip .run w d ram log pcm sheet readings) (ofRun d ram log pcm sheet readings) (λ k. unrun k d ram pcm sheet readings)
   pub part : (d : Dsp) (at left : ℕ) (ram log pcm : List ℕ)
-      → Exactly (λ a. a .told .refusal) (partOf d at left ram log pcm) (ofPart d at left ram log pcm) (λ k. unparted k d at left ram pcm)
+      → Exactly (λ a. a .told .refusal) (chip .part d at left ram log pcm) (ofPart d at left ram log pcm) (λ k. unparted k d at left ram pcm)
   pub rework : (s : ℕ) (start end : Dsp) (ram log₁ log₂ pcm sheet readings : List ℕ)
-      → Exactly (λ a. a .refusal) (reworkOf s start end ram log₁ log₂ pcm sheet readings) (ofRework s start end ram log₁ log₂ pcm sheet readings)
+      → Exactly (λ a. a .refusal) (chip .rework s start end ram log₁ log₂ pcm sheet readings) (ofRework s start end ram log₁ log₂ pcm sheet readings)
       (λ k. unreworked k start pcm sheet readings)
   pub reworkNew : (s : ℕ) (ram log₁ log₂ pcm sheet readings : List ℕ) → Bytes log₁ → Bytes log₂
-      → Exactly (λ a. a .refusal) (reworkNewOf s ram log₁ log₂ pcm sheet readings)
+      → Exactly (λ a. a .refusal) (chip .reworkNew s ram log₁ log₂ pcm sheet readings)
       ((1 when ramIsNotWhole ram) ∷ ofLogs s newDsp log₁ log₂ pcm sheet readings)
       (λ k. unreworked k newDsp pcm sheet readings)
+
+abbrev pub Demand1 : Type 0
+Demand1 = RefusesByTheTable ours
 
 -- ---- 2: from any fit record a run is the public entries one after another
 

@@ -12,11 +12,14 @@ use Rattle.numbers.specs.Signed.{clamp16Z}
 use Rattle.sound.specs.Sound.{volumed}
 use Rattle.dsp.specs.Machine.{newAdsr, newBrr, noVoice, newVoice, newDsp, globOf, together}
 use Rattle.dsp.specs.Mix.{outputOf, masterOf, renderOf}
-use Rattle.dsp.specs.Tick.{stepOf}
+use Rattle.dsp.specs.Tick.{refused, stepOf, undriven}
 use Rattle.dsp.specs.declared.registers.Dsp.{Dsp}
 use Rattle.dsp.specs.declared.voice.Voice.{Voice}
-use Rattle.sitting.specs.Run.{Outcome, runOf}
-use Rattle.rework.specs.Rework.{Left, reworkOf}
+use Rattle.log.specs.Measure.{unmeasured}
+use Rattle.sitting.specs.Run.{Outcome, unrun, runOf}
+use Rattle.sitting.specs.Parts.{unparted}
+use Rattle.rework.specs.Rework.{Left, unreworked, reworkOf}
+use Rattle.rework.specs.Demands.{Chip, RefusesByTheTable}
 
 -- ---- logs
 
@@ -119,10 +122,27 @@ withVoice v =
 abbrev silenced : Outcome
 silenced = runOf newDsp ram (put 0x6C 0x20 (put 0x07 0x7F (put 0x4C 0x01 (ticks 6 (put 0x6C 0xA0 (ticks 1 (ask 0x08 end))))))) pcm (replicate 252 0) (0 ∷ [])
 
+-- ---- a chip that refuses all
+
+abbrev refusing : Chip
+refusing =
+    record {
+      write = λ index x d. record { refusal = 2; dsp = d };
+      render = λ d. record { refusal = 2; left = pos 0; right = pos 0 };
+      step = λ d ram. refused 1 d ram;
+      ticks = λ w n d ram pcm sheet. undriven 1 d ram pcm sheet;
+      measure = λ log. unmeasured 3;
+      run = λ w d ram log pcm sheet readings. unrun 1 d ram pcm sheet readings;
+      part = λ d at left ram log pcm. unparted 1 d at left ram pcm;
+      rework = λ s start end ram log₁ log₂ pcm sheet readings. unreworked 1 start pcm sheet readings;
+      reworkNew = λ s ram log₁ log₂ pcm sheet readings. unreworked 1 newDsp pcm sheet readings;
+    }
+
 -- ---- the list
 
 pub record NotThrough : Type 0 where
-  -- "a chip that refuses all"
+  -- "a chip that refuses all": it fails demand 1, and these calls are not refused
+  pub refusesAll : RefusesByTheTable refusing → ⊥
   pub taken : (stepOf newDsp ram .refusal ≡ 0) × (renderOf newDsp .refusal ≡ 0) × (noisy .refusal ≡ 0) × (again 0 (noisy .dsp) (noisy .sheet) .refusal ≡ 0)
   -- "silence or one fixed sample"
   pub sounds : sampleAt 5 ≢ 0 ∷ 0 ∷ 0 ∷ 0 ∷ []
