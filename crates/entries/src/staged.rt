@@ -8,7 +8,6 @@ use crate::lines::line;
 use crate::parts::Part;
 use crate::parts::with;
 use crate::same::same_record;
-use dsp::Dsp;
 use report::lines::say;
 use sitting::Heard;
 use sitting::Stage;
@@ -68,7 +67,7 @@ fn faults() {
     first(b"log too long", &[0; 60001]);
 }
 
-// 1, 2, 3.
+// 1, 2, 3, each before the next, and 3 before 10.
 fn order() {
     let unfit = Stage::new(with(Part::Level, 0, 0x801));
     let long = [0; 60001];

@@ -25,7 +25,7 @@ use Rattle.sitting.proofs.Runs.{ticks-unseen}
 -- ---- on
 
 -- a refusal owes nothing
-pub refused-goes : (k at left size at′ left′ : ℕ) (d : Dsp) → k ≢ 0 → Goes at left size (untold k d at′ left′)
+refused-goes : (k at left size at′ left′ : ℕ) (d : Dsp) → k ≢ 0 → Goes at left size (untold k d at′ left′)
 refused-goes k at left size at′ left′ d h = λ e. absurd (h e)
 
 stop-goes : (k at size : ℕ) (d : Dsp) → Goes at 0 size (stopAt k d at)
@@ -44,7 +44,7 @@ unfolding nextAt
 next-goes (Off k) at size d m = stop-goes k at size d
 next-goes (On r behind) at size d m = record-goes r at behind size d (m .0) (m .1)
 
-pub sound-goes : (n at left size : ℕ) (d : Dsp) (ram pcm : List ℕ) → 1 ≤ n → n ≤ left → Goes at left size (sounding n d at left ram pcm .told)
+sound-goes : (n at left size : ℕ) (d : Dsp) (ram pcm : List ℕ) → 1 ≤ n → n ≤ left → Goes at left size (sounding n d at left ram pcm .told)
 unfolding sounding
 sound-goes n at left size d ram pcm l m = (refl, omega arith)
 

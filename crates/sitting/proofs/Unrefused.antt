@@ -1,4 +1,4 @@
--- A log that `measureOf` takes: no part of it is refused, from the first stage on. The first part of another is.
+-- A log that `measureOf` takes: no part of it is refused, from the first stage on. Of any other log the first part is.
 use mathlib.Core.Bool.{true}
 use mathlib.Core.List.{List, [], _∷_}
 use mathlib.Core.Path.{_≡_, refl, sym, ap, subst}
@@ -101,6 +101,7 @@ admitted d at left ram log pcm =
     (λ k e. record { ram-is = eqb-true _ _ l; fit-is = f; log-is = eqb-true _ _ k })
     (λ k e. absurd (eqb-false (logRefusal at log) 0 k e))) (λ _ e. absurd (omega arith))) (λ _ e. absurd (omega arith))
 
+-- part after part
 parts-unrefused : (log : List ℕ) (m : Measured) → Taken log m → ((i : ℕ) → getD log i 0 < 256) → (pcms : List (List ℕ)) → Roomy pcms → (p : Parted) → Unrefused log p
     → furtherParts p log pcms .told .refusal ≡ 0
 unfolding furtherParts

@@ -80,15 +80,15 @@ sounding n d at left ram pcm = soundingFrom n at left pcm (ticksOf everything n 
 
 -- ---- a part
 
--- the log's refusal: "the whole log is checked before the first tick", where a run begins, at place 0. A stage behind that comes of a
--- log that was checked; of another log its length is looked at, and then what stands at the place
+-- the log's refusal: at place 0, where a run begins, the whole log's ("the whole log is checked before the first tick"). A stage behind
+-- it comes of a log that was checked; of another that is handed in the length is looked at, and then what stands at the place
 unfoldable pub logRefusal : ℕ → List ℕ → ℕ
 logRefusal at log =
     if at =? 0 then measureOf log .refusal else
     if 60000 <? length log then 3 else
     0
 
--- 1, 2, the log's; then 4 to 9 of what stands at the place, or with ticks left 10 for a buffer without room for one
+-- 1, 2, then the log's; with no ticks left 4 to 9 of what stands at the place, else 10 for a buffer without room for a tick
 unfoldable pub partOf : Dsp → ℕ → ℕ → List ℕ → List ℕ → List ℕ → Parted
 partOf d at left ram log pcm =
     if length ram =? 0x10000 then
