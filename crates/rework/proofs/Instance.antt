@@ -121,6 +121,7 @@ computed = (
     second-runs = refl;
   },
   record {
+    refusesAll = λ h. let e : _≡_ {A = ℕ} 2 0 = h .render newDsp .0 in absurd (omega (arith, e));
     taken = (refl, refl, refl, refl);
     sounds = differ-by (λ (xs : List ℕ). getD xs 0 0) 0xF4 0 refl refl (λ e. absurd (omega (arith, e)));
     moves = differ-by (λ (xs : List ℕ). getD xs 0 0) 0xF4 0xFA refl refl (λ e. absurd (omega (arith, e)));
