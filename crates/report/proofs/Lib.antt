@@ -1,1 +1,6 @@
 pub mod Product
+pub mod Digests
+pub mod Digits
+pub mod Takes
+pub mod Listing
+pub mod Cuts
