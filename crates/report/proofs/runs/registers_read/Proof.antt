@@ -4,7 +4,8 @@ use Prim.Native.Nat.{_-_, _<_}
 use native.Mathlib.Omega.{arith}
 use lib.ListN.{length}
 use Rattle.log.proofs.Turn.{moved}
-use Rattle.report.proofs.Listing.{Listed, first, long, full, ended, listed, passed, others}
+use Rattle.report.proofs.Filling.{long, full}
+use Rattle.report.proofs.Listing.{Listed, first, ended, listed, passed, others}
 use Rattle.report.proofs.runs.registers_read.Statement.{statement}
 use Rattle.report.proofs.runs.registers_read.Tie as tie
 
@@ -18,7 +19,7 @@ loop-again : tie.Need-loop-again Inv-loop μ-loop
 loop-again c =
     let l = c .before .before .before .before .before .before .before .before .loop in
     let r = c .before .before .before .before .before .before .read .ensures in
-    let h : l .put < length (c .before .before .before .before .before .before .before .before .before .before .before .args .to .now) = omega (arith, long (l .inv), c .before .before .before .before .before .before .before .loop-test .taken) in
+    let h : l .put < length (c .before .before .before .before .before .before .before .before .before .before .before .args .to .now) = omega (arith, long (l .inv .filling), c .before .before .before .before .before .before .before .loop-test .taken) in
     listed (l .inv) (r .0) (c .before .before .before .before .found .given .1) (c .before .found2 .given .1) (r .1) h
 
 loop-again-2 : tie.Need-loop-again-2 Inv-loop μ-loop
@@ -35,7 +36,7 @@ registers-read-spec =
     (λ c κs. search needs)
     (λ c. search needs)
     (λ c. search needs)
-    (λ c. long (c .before .before .before .before .loop .inv))
+    (λ c. long (c .before .before .before .before .loop .inv .filling))
     (λ c. ended (c .before .before .before .before .loop .inv) (c .before .before .read .ensures .0) (c .enum-told .given .1))
     (λ c. search needs)
     (λ c. search needs)
@@ -44,5 +45,5 @@ registers-read-spec =
     loop-again
     (λ c. let m = moved (c .before .before .found .given .1) (c .before .before .before .before .read .ensures .1) in let a = m .0 in let b = m .1 in omega arith)
     loop-again-2
-    (λ c. long (c .before .loop .inv))
-    (λ c. let l = c .before .loop in full (l .inv) (omega (arith, long (l .inv), l .inv .room, c .loop-test .left))))
+    (λ c. long (c .before .loop .inv .filling))
+    (λ c. let l = c .before .loop in full (l .inv .filling) (omega (arith, long (l .inv .filling), l .inv .filling .room, c .loop-test .left))))
