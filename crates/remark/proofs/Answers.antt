@@ -1,7 +1,7 @@
 -- The answer from its parts.
 use mathlib.Core.List.{List}
 use mathlib.Core.Path.{_≡_, sym, ap, _∙_}
-use Prim.Native.Nat.{ℕ, _≤_, _<_}
+use Prim.Native.Nat.{ℕ, _<_}
 use native.Mathlib.Omega.{arith}
 use native.Mathlib.Decide.{decLe}
 use lib.ListN.{length, take}
@@ -19,17 +19,17 @@ use Rattle.report.specs.Runs.{roomFor, roomWithin, roomIn, runCut, registersIn}
 use Rattle.report.specs.declared.runs.Room.{Room}
 use Rattle.report.proofs.Cuts.{room-is}
 use Rattle.remark.specs.Marking.{same, changed, verdictOf}
-use Rattle.remark.specs.Answer.{before, reworkIn, reworkCut, Both, unplayed, reworked, afterFirst, bothOf, Judged, judgeFirst, judgeOf, Answer, judging, answerOf}
+use Rattle.remark.specs.Answer.{withRest, reworkIn, reworkCut, Both, unplayed, reworked, afterFirst, bothOf, Judged, judgeFirst, judgeOf, Answer, judging, answerOf}
 use Rattle.remark.specs.declared.marking.Verdict.{Verdict}
 
 -- a rework that is lent the first bytes of each slice
 pub cut-rework : (s : ℕ) (end : Dsp) (ram log₁ log₂ sheet pcm readings : List ℕ) {m : Measured} {e n : Room} {d : Dsp} {x : Left}
     → m ≡ measureOf log₂ → e ≡ roomFor (m .ticks) (m .readings) → n ≡ roomWithin e (length pcm) (length sheet) (length readings)
     → d ≡ newDsp → x ≡ reworkOf s d end ram log₁ log₂ (take (n .sheet) sheet) (take (n .pcm) pcm) (take (n .readings) readings)
-    → before n sheet pcm readings x ≡ reworkCut s end ram log₁ log₂ sheet pcm readings
+    → withRest n sheet pcm readings x ≡ reworkCut s end ram log₁ log₂ sheet pcm readings
 unfolding reworkCut
 cut-rework s end ram log₁ log₂ sheet pcm readings {n = n} em ee en ed ex =
-    ap (before n sheet pcm readings) (ex ∙ ap (λ (k : Dsp). reworkOf s k end ram log₁ log₂ (take (n .sheet) sheet) (take (n .pcm) pcm) (take (n .readings) readings)) ed)
+    ap (withRest n sheet pcm readings) (ex ∙ ap (λ (k : Dsp). reworkOf s k end ram log₁ log₂ (take (n .sheet) sheet) (take (n .pcm) pcm) (take (n .readings) readings)) ed)
     ∙ ap (λ (k : Room). reworkIn k s end ram log₁ log₂ sheet pcm readings)
     (room-is _ _ (length pcm) (length sheet) (length readings) ee en ∙ ap (λ (k : Measured). roomIn (k .ticks) (k .readings) pcm sheet readings) em)
 

@@ -1,17 +1,15 @@
 -- Each reading is as before or has changed; and nothing has to be marked again where the readings are equal, and nowhere else.
-use mathlib.Core.Bool.{Bool, true, false}
 use mathlib.Core.List.{List, [], _∷_}
-use mathlib.Core.Path.{_≡_, refl, sym, ap, _∙_, subst}
+use mathlib.Core.Path.{_≡_, refl, sym, ap, _∙_}
 use Prim.Native.Nat.{ℕ, suc, _+_, _≤_, _<_}
 use native.Mathlib.Omega.{arith}
 use native.Mathlib.Decide.{decLe}
 use lib.ListN.{length}
 use borrow.Author.Tests.{le-leb, lt-leb, eq-eqb, eqb-true}
-use Rattle.numbers.specs.Choice.{if_then_else_, _=?_}
+use Rattle.numbers.specs.Choice.{_=?_}
 use Rattle.numbers.proofs.Choice.{tested}
 use Rattle.remark.specs.Marking.{kept, same, changedFrom, changed, verdictBy, verdictOf, greatest}
 use Rattle.remark.specs.Laws.{EachIsTold, NothingIsEqual}
-use Rattle.remark.specs.declared.marking.Verdict.{Verdict}
 use Rattle.remark.specs.declared.marking.Verdict.the-variants.{Nothing, Changed}
 
 -- ---- the count

@@ -18,8 +18,8 @@ use Rattle.remark.specs.declared.marking.Verdict.{Verdict}
 
 -- ---- a rework that is lent the first bytes of each slice, as many as the new log needs; what stands behind them stays
 
-abbrev pub before : Room → List ℕ → List ℕ → List ℕ → Left → Left
-before n sheet pcm readings x =
+abbrev pub withRest : Room → List ℕ → List ℕ → List ℕ → Left → Left
+withRest n sheet pcm readings x =
     record {
       refusal = x .refusal;
       dsp = x .dsp;
@@ -32,7 +32,7 @@ before n sheet pcm readings x =
 
 abbrev pub reworkIn : Room → ℕ → Dsp → List ℕ → List ℕ → List ℕ → List ℕ → List ℕ → List ℕ → Left
 reworkIn n s end ram log₁ log₂ sheet pcm readings =
-    before n sheet pcm readings (reworkOf s newDsp end ram log₁ log₂ (take (n .sheet) sheet) (take (n .pcm) pcm) (take (n .readings) readings))
+    withRest n sheet pcm readings (reworkOf s newDsp end ram log₁ log₂ (take (n .sheet) sheet) (take (n .pcm) pcm) (take (n .readings) readings))
 
 -- s: the named voices; end: the record at the old log's end
 unfoldable pub reworkCut : ℕ → Dsp → List ℕ → List ℕ → List ℕ → List ℕ → List ℕ → List ℕ → Left

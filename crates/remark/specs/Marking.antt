@@ -3,7 +3,7 @@ use mathlib.Core.Bool.{Bool, false}
 use mathlib.Core.List.{List, [], _∷_}
 use Prim.Native.Nat.{ℕ, _+_}
 use lib.ListN.{length, getD}
-use Rattle.numbers.specs.Choice.{if_then_else_, _≤?_, _<?_, _=?_}
+use Rattle.numbers.specs.Choice.{if_then_else_, _≤?_, _=?_}
 use Rattle.remark.specs.declared.marking.Verdict.{Verdict}
 use Rattle.remark.specs.declared.marking.Verdict.the-variants.{Nothing, Changed}
 

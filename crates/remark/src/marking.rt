@@ -78,8 +78,8 @@ pub fn verdict_of(before: &[u8], after: &[u8]) -> Verdict
     if before.len() != after.len() {
         return Verdict::Changed;
     }
-    if same(before, after) != before.len() as u64 {
-        return Verdict::Changed;
+    if same(before, after) == before.len() as u64 {
+        return Verdict::Nothing;
     }
-    Verdict::Nothing
+    Verdict::Changed
 }

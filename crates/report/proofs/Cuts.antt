@@ -9,7 +9,7 @@ use Rattle.log.specs.Measure.{measureOf}
 use Rattle.log.specs.declared.Measured.{Measured}
 use Rattle.sitting.specs.Run.{Outcome, runOf}
 use Rattle.report.specs.Digest.{empty, digestOf, leftBy}
-use Rattle.report.specs.Runs.{roomFor, roomWithin, roomIn, before, runIn, runCut, leftIn, leftOf, Through, through}
+use Rattle.report.specs.Runs.{roomFor, roomWithin, roomIn, withRest, runIn, runCut, leftIn, leftOf, Through, through}
 use Rattle.report.specs.declared.left.Left.{Left}
 use Rattle.report.specs.declared.runs.Room.{Room}
 
@@ -21,10 +21,10 @@ module _ (pcm sheet readings : List ℕ) {n e : Room} where
   pub cut-run : (d : Dsp) (ram log : List ℕ) {m : Measured} {o : Outcome} → m ≡ measureOf log → e ≡ roomFor (m .ticks) (m .readings)
       → n ≡ roomWithin e (length pcm) (length sheet) (length readings)
       → o ≡ runOf d ram log (take (n .pcm) pcm) (take (n .sheet) sheet) (take (n .readings) readings)
-      → before n pcm sheet readings o ≡ runCut d ram log pcm sheet readings
+      → withRest n pcm sheet readings o ≡ runCut d ram log pcm sheet readings
   unfolding runCut
   cut-run d ram log em ee en eo =
-      ap (before n pcm sheet readings) eo
+      ap (withRest n pcm sheet readings) eo
       ∙ ap (λ (k : Room). runIn k d ram log pcm sheet readings) (room-is _ _ (length pcm) (length sheet) (length readings) ee en ∙ ap (λ (k : Measured). roomIn (k .ticks) (k .readings) pcm sheet readings) em)
 
   pub cut-left : (d : Dsp) (ticks count : ℕ) (ram : List ℕ) {l : Left} → e ≡ roomFor ticks count → n ≡ roomWithin e (length pcm) (length sheet) (length readings)

@@ -36,8 +36,8 @@ abbrev pub startOf : Bool → Dsp → Dsp
 startOf ofNew start = if ofNew then newDsp else start
 
 -- what stands behind them stays
-abbrev pub before : Room → List ℕ → List ℕ → List ℕ → Outcome → Outcome
-before n pcm sheet readings o =
+abbrev pub withRest : Room → List ℕ → List ℕ → List ℕ → Outcome → Outcome
+withRest n pcm sheet readings o =
     record {
       refusal = o .refusal;
       dsp = o .dsp;
@@ -51,7 +51,7 @@ before n pcm sheet readings o =
 
 abbrev pub runIn : Room → Dsp → List ℕ → List ℕ → List ℕ → List ℕ → List ℕ → Outcome
 runIn n d ram log pcm sheet readings =
-    before n pcm sheet readings (runOf d ram log (take (n .pcm) pcm) (take (n .sheet) sheet) (take (n .readings) readings))
+    withRest n pcm sheet readings (runOf d ram log (take (n .pcm) pcm) (take (n .sheet) sheet) (take (n .readings) readings))
 
 unfoldable pub runCut : Dsp → List ℕ → List ℕ → List ℕ → List ℕ → List ℕ → Outcome
 runCut d ram log pcm sheet readings = runIn (roomIn (measureOf log .ticks) (measureOf log .readings) pcm sheet readings) d ram log pcm sheet readings

@@ -1,6 +1,5 @@
 -- The first run is refused, or reworked.
 use borrow.Author.Needs.{needs}
-use mathlib.Core.Path.{_≡_}
 use Rattle.remark.proofs.Answers.{first-refused, first-reworked}
 use Rattle.remark.proofs.answer.work.Statement.{statement}
 use Rattle.remark.proofs.answer.work.Tie as tie

@@ -8,10 +8,10 @@ use Rattle.remark.proofs.Laws.{unequal, same-self, all-same}
 use Rattle.remark.proofs.marking.verdict_of.Statement.{statement}
 use Rattle.remark.proofs.marking.verdict_of.Tie as tie
 
-returns-2 : tie.Need-returns-2
-returns-2 c =
+returns-3 : tie.Need-returns-3
+returns-3 c =
     let a = c .before .before .before .before .before .args in
-    unequal _ _ (λ e. c .if2 .taken (c .before .same .ensures ∙ ap (λ (l : List _). same (a .before .now) l) (sym e) ∙ same-self (a .before .now)))
+    unequal _ _ (λ e. c .if2 .left (c .before .same .ensures ∙ ap (λ (l : List _). same (a .before .now) l) (sym e) ∙ same-self (a .before .now)))
 
 pub verdict-of-spec : {M : Type 1} → statement M
 verdict-of-spec =
@@ -19,5 +19,5 @@ verdict-of-spec =
     (tie.spec
     (λ c. unequal _ _ (λ e. c .if1 .taken (ap length e)))
     (λ c κs. search needs)
-    returns-2
-    (λ c. all-same _ _ (c .before .before .if1 .left) (sym (c .before .same .ensures) ∙ c .if2 .left)))
+    (λ c. all-same _ _ (c .before .before .if1 .left) (sym (c .before .same .ensures) ∙ c .if2 .taken))
+    returns-3)

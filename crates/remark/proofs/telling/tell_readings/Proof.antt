@@ -1,7 +1,6 @@
 -- The next number is at most the reading that is reached. The measure is the readings that are left.
 use borrow.Author.Needs.{needs}
 use Prim.Native.Nat.{_-_, _≤_}
-use native.Mathlib.Omega.{arith}
 use Rattle.remark.proofs.telling.tell_readings.Statement.{statement}
 use Rattle.remark.proofs.telling.tell_readings.Tie as tie
 
