@@ -47,3 +47,13 @@ abbrev pub greatest : ℕ → ℕ → ℕ
 greatest a b =
     if a ≤? b then b else
     a
+
+-- ---- the list, met one by one: whether this is its next number, and where the next one then stands
+
+abbrev pub isAt : List ℕ → ℕ → ℕ → Bool
+isAt numbers at number =
+    if length numbers ≤? at then false else
+    getD numbers at 0 =? number
+
+abbrev pub behind : ℕ → Bool → ℕ
+behind at isNext = if isNext then at + 1 else at

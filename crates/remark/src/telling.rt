@@ -1,5 +1,7 @@
 // The answer told: room for any log, then the lines.
+ghost use mathlib.Core.Path.{_≡_};
 ghost use Prim.Native.Nat.{_+_, _≤_, _<_};
+ghost use Rattle.remark.specs.Marking.{isAt, behind as behindOf};
 use crate::answer::Answer;
 use crate::answer::Judged;
 use crate::answer::answered;
@@ -113,14 +115,16 @@ fn tell_readings(registers: &[u8], before: &[u8], after: &[u8], changed: &[u64])
 
 fn behind(at: usize, is_next: bool) -> usize
     requires { ⌜ at < 0xFFFFFFFFFFFFFFFF ⌝ }
-    ensures { λ r. ⌜ r ≤ at + 1 ⌝ }
+    ensures { λ r. ⌜ (r ≡ behindOf at «is_next») × (r ≤ at + 1) ⌝ }
 {
     if is_next { at + 1 } else { at }
 }
 
-fn is_at(numbers: &[u64], at: usize, number: u64) -> bool {
-    if at < numbers.len() {
-        return numbers[at] == number;
+fn is_at(numbers: &[u64], at: usize, number: u64) -> bool
+    ensures { λ r. ⌜ r ≡ isAt (now (numbers .entry)) at number ⌝ }
+{
+    if numbers.len() <= at {
+        return false;
     }
-    false
+    numbers[at] == number
 }
