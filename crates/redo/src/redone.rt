@@ -42,9 +42,7 @@ pub fn spoiled(dsp: Dsp, unfit: bool) -> Dsp {
 
 // The record that the rework gives back. The first run has a RAM of its own. `of_new`: both sittings start from `new`, so that
 // `rework_new` has to give the same.
-pub fn redo(asked: Asked, of_new: bool, from: Dsp, start: Dsp, old: &[u8], new: &[u8]) -> Dsp
-    requires { ⌜ asked .ram < 10 ⌝ }
-{
+pub fn redo(asked: Asked, of_new: bool, from: Dsp, start: Dsp, old: &[u8], new: &[u8]) -> Dsp {
     let mut ram = [0u8; 65537];
     let n = image(asked.ram, &mut ram);
     let mut own = ram;

@@ -1,14 +1,14 @@
--- No more are as before than there were. The measure is the readings that are left.
+-- The next number is at most the reading that is reached. The measure is the readings that are left.
 use borrow.Author.Needs.{needs}
 use Prim.Native.Nat.{_-_, _≤_}
-use Rattle.remark.proofs.marking.tell_readings.Statement.{statement}
-use Rattle.remark.proofs.marking.tell_readings.Tie as tie
+use Rattle.remark.proofs.telling.tell_readings.Statement.{statement}
+use Rattle.remark.proofs.telling.tell_readings.Tie as tie
 
 abbrev Inv-loop : tie.InvT-loop
-Inv-loop registers before after n told₀ i₀ told i = (told .same ≤ i) × (i ≤ n)
+Inv-loop registers before after changed n out₀ next₀ i₀ out next i = (next ≤ i) × (i ≤ n)
 
 abbrev μ-loop : tie.MeasureT-loop
-μ-loop registers before after n told₀ i₀ told i = n - i
+μ-loop registers before after changed n out₀ next₀ i₀ out next i = n - i
 
 pub tell-readings-spec : {M : Type 1} → statement M
 tell-readings-spec =
@@ -20,9 +20,11 @@ tell-readings-spec =
     (λ c κs. search needs)
     (λ c. search needs)
     (λ c. search needs)
+    (λ c κs. search needs)
     (λ c. search needs)
     (λ c. search needs)
     (λ c. search needs)
+    (λ c κs. search needs)
     (λ c κs. search needs)
     (λ c. search needs)
     (λ c. search needs)
