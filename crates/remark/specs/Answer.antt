@@ -19,7 +19,7 @@ use Rattle.remark.specs.declared.marking.Verdict.{Verdict}
 -- ---- a rework that is lent the first bytes of each slice, as many as the new log needs; what stands behind them stays
 
 abbrev pub withRest : Room → List ℕ → List ℕ → List ℕ → Left → Left
-withRest n sheet pcm readings x =
+withRest n pcm sheet readings x =
     record {
       refusal = x .refusal;
       dsp = x .dsp;
@@ -31,13 +31,13 @@ withRest n sheet pcm readings x =
     }
 
 abbrev pub reworkIn : Room → ℕ → Dsp → List ℕ → List ℕ → List ℕ → List ℕ → List ℕ → List ℕ → Left
-reworkIn n s end ram log₁ log₂ sheet pcm readings =
-    withRest n sheet pcm readings (reworkOf s newDsp end ram log₁ log₂ (take (n .sheet) sheet) (take (n .pcm) pcm) (take (n .readings) readings))
+reworkIn n s end ram log₁ log₂ pcm sheet readings =
+    withRest n pcm sheet readings (reworkOf s newDsp end ram log₁ log₂ (take (n .pcm) pcm) (take (n .sheet) sheet) (take (n .readings) readings))
 
 -- s: the named voices; end: the record at the old log's end
 unfoldable pub reworkCut : ℕ → Dsp → List ℕ → List ℕ → List ℕ → List ℕ → List ℕ → List ℕ → Left
-reworkCut s end ram log₁ log₂ sheet pcm readings =
-    reworkIn (roomIn (measureOf log₂ .ticks) (measureOf log₂ .readings) pcm sheet readings) s end ram log₁ log₂ sheet pcm readings
+reworkCut s end ram log₁ log₂ pcm sheet readings =
+    reworkIn (roomIn (measureOf log₂ .ticks) (measureOf log₂ .readings) pcm sheet readings) s end ram log₁ log₂ pcm sheet readings
 
 -- ---- both sittings
 
@@ -83,7 +83,7 @@ reworked o x =
 
 abbrev pub afterFirst : ℕ → List ℕ → List ℕ → List ℕ → List ℕ → Outcome → Both
 afterFirst s ram log₁ log₂ after o =
-    if o .refusal =? 0 then reworked o (reworkCut s (o .dsp) ram log₁ log₂ (o .sheet) (o .pcm) after) else
+    if o .refusal =? 0 then reworked o (reworkCut s (o .dsp) ram log₁ log₂ (o .pcm) (o .sheet) after) else
     unplayed o after
 
 -- the first run has a RAM of its own

@@ -47,7 +47,7 @@ fn rework_cut(
     sheet: &mut [u8],
     readings: &mut [u8],
 ) -> Reworked
-    ensures { λ r. ⌜ _≡_ {A = Left} (record { refusal = r .refusal; dsp = r .dsp; members = r .members; count = r .count; sheet = now (sheet .exit); pcm = now (pcm .exit); readings = now (readings .exit) }) (reworkCut named end (now (ram .entry)) (now (old .entry)) (now (new .entry)) (now (sheet .entry)) (now (pcm .entry)) (now (readings .entry))) ⌝ }
+    ensures { λ r. ⌜ _≡_ {A = Left} (record { refusal = r .refusal; dsp = r .dsp; members = r .members; count = r .count; pcm = now (pcm .exit); sheet = now (sheet .exit); readings = now (readings .exit) }) (reworkCut named end (now (ram .entry)) (now (old .entry)) (now (new .entry)) (now (pcm .entry)) (now (sheet .entry)) (now (readings .entry))) ⌝ }
 {
     let m = measure(new);
     let n = room_for(m.ticks, m.readings).within(pcm.len(), sheet.len(), readings.len());
@@ -58,8 +58,8 @@ fn rework_cut(
         ram,
         old,
         new,
-        &mut sheet[..n.sheet],
         &mut pcm[..n.pcm],
+        &mut sheet[..n.sheet],
         &mut readings[..n.readings],
     )
 }
