@@ -50,19 +50,19 @@ pollOne koff kon dir j p =
 abbrev pub polledAll : Glob → Polled → Polled
 polledAll g p = turns (pollOne (koffNow g (p .registers)) (konNow g) (g .«dir_base»)) 8 p
 
--- "each poll uses up the pending KON"; every second tick polls
-abbrev pub polledGlob : Glob → Glob
-polledGlob g =
+-- the same but for what a poll and the noise move
+abbrev pub withMoved : Glob → ℕ → Bool → Noise → Glob
+withMoved g kon other noise =
     record {
       «dir_base» = g .«dir_base»;
       «master_vol_left» = g .«master_vol_left»;
       «master_vol_right» = g .«master_vol_right»;
       flg = g .flg;
-      «new_kon» = if polls g then 0 else g .«new_kon»;
-      «every_other_sample» = not (g .«every_other_sample»);
+      «new_kon» = kon;
+      «every_other_sample» = other;
       non = g .non;
       pmon = g .pmon;
-      noise = g .noise;
+      noise = noise;
       «echo_vol_left» = g .«echo_vol_left»;
       «echo_vol_right» = g .«echo_vol_right»;
       efb = g .efb;
@@ -74,6 +74,10 @@ polledGlob g =
       «echo_out_l» = g .«echo_out_l»;
       «echo_out_r» = g .«echo_out_r»;
     }
+
+-- "each poll uses up the pending KON"; every second tick polls
+abbrev pub polledGlob : Glob → Glob
+polledGlob g = withMoved g (if polls g then 0 else g .«new_kon») (not (g .«every_other_sample»)) (g .noise)
 
 abbrev pub withPolled : Parts → Polled → Parts
 withPolled p q =
@@ -92,32 +96,8 @@ polledParts p = withPolled p (polledAll (p .glob) (record { voices = p .voices; 
 
 -- ---- the noise
 
-abbrev pub withNoise : Glob → Noise → Glob
-withNoise g noise =
-    record {
-      «dir_base» = g .«dir_base»;
-      «master_vol_left» = g .«master_vol_left»;
-      «master_vol_right» = g .«master_vol_right»;
-      flg = g .flg;
-      «new_kon» = g .«new_kon»;
-      «every_other_sample» = g .«every_other_sample»;
-      non = g .non;
-      pmon = g .pmon;
-      noise = noise;
-      «echo_vol_left» = g .«echo_vol_left»;
-      «echo_vol_right» = g .«echo_vol_right»;
-      efb = g .efb;
-      eon = g .eon;
-      esa = g .esa;
-      edl = g .edl;
-      «echo_ptr» = g .«echo_ptr»;
-      «echo_len» = g .«echo_len»;
-      «echo_out_l» = g .«echo_out_l»;
-      «echo_out_r» = g .«echo_out_r»;
-    }
-
 abbrev pub noisedGlob : Glob → Glob
-noisedGlob g = withNoise g (noiseTick (g .flg) (g .noise))
+noisedGlob g = withMoved g (g .«new_kon») (g .«every_other_sample») (noiseTick (g .flg) (g .noise))
 
 -- ---- the voices, which poll nothing any more, and the echo
 
