@@ -1,11 +1,9 @@
 -- The callees, with the read-backs removed.
 use borrow.Author.Needs.{needs}
-use mathlib.Core.Path.{_∙_, ap}
+use mathlib.Core.Path.{_∙_}
 use mir.Syntax.{w8, w16}
-use Rattle.numbers.specs.Choice.{if_then_else_}
 use Rattle.numbers.proofs.Range.{landed}
-use Rattle.dsp.specs.Sheet.{laneBytes}
-use Rattle.dsp.specs.Lane.{ownCell, shownCell, added, putBytes, turned}
+use Rattle.dsp.specs.Lane.{added, turned}
 use Rattle.dsp.specs.Lane as lanes
 use Rattle.dsp.proofs.lane.lane.Statement.{statement}
 use Rattle.dsp.proofs.lane.lane.Tie as tie
@@ -17,22 +15,22 @@ same-length : tie.Need-same-length
 same-length c = c .before .before .before .before .before .before .before .before .before .before .before .before .before .put-bytes .kept .0
 
 returns : tie.Need-returns
-unfolding turned
+unfolding turned added
 returns c = let a = c .before .before .before .before .before .before .before .before .before .before .before .before .before .before .before .before .before .before .before .before .before .before .before .before .args in
     let x = c .before .before .before .before .before .before .before .before .before .before .before .before .before .before .before .before .cell .result in
     let o = landed w16 {z = x .out} (c .before .before .before .before .before .before .before .before .before .before .before .before .before .before .struct-told2 .given .1 .1 .0 .1) in
     let l = landed w8 {z = x .voice .«left_vol»} (c .before .before .struct-told5 .given .0 .1) in
     let r = landed w8 {z = x .voice .«right_vol»} (c .before .struct-told6 .given .1 .0 .1) in
     let e = landed w16 {z = a .acc .prev} (c .before .before .before .before .before .before .before .before .before .before .before .before .before .before .before .before .before .struct-told .given .0 .1) in
+    let f = c .added .ensures in
+    rw (← e, ← c .before .before .before .before .before .before .before .before .before .before .before .before .before .before .before .before .cell .ensures, ← c .before .before .before .before .bit .ensures, ← o)
     (λ i. record {
       voice = x .voice;
       delay = x .delay;
-      acc = (c .added .ensures ∙ (λ k. added (c .before .before .before .before .bit .ensures k) (o k) (l k) (r k) (a .acc))) i;
-      bytes = (c .before .before .before .before .before .before .before .before .before .before .before .before .before .put-bytes .ensures ∙ (λ k. putBytes (a .j) (x .envx) (o k) (x .endx) (a .bytes .now))) i;
-      slot = (c .before .before .before .before .before .before .before .before .put-slot .ensures ∙ (λ k. if a .worked then laneBytes (o k) (x .envx) (x .endx) else a .slot .now)) i;
+      acc = _∙_ {b = f 1} f (λ k. added (c .before .before .before .before .bit .result) (o 0) (l k) (r k) (a .acc)) i;
+      bytes = c .before .before .before .before .before .before .before .before .before .before .before .before .before .put-bytes .ensures i;
+      slot = c .before .before .before .before .before .before .before .before .put-slot .ensures i;
     })
-    ∙ ap (lanes.landed (a .worked) (a .c) (a .j) (a .acc) (a .bytes .now) (a .slot .now))
-    (c .before .before .before .before .before .before .before .before .before .before .before .before .before .before .before .before .cell .ensures ∙ (λ k. if a .worked then ownCell (a .c) (a .ram .now) (a .j) (e k) (a .v) (a .delay) (a .bytes .now) else shownCell (a .slot .now) (a .v) (a .delay)))
 
 pub lane-spec : {M : Type 1} → statement M
 lane-spec =
