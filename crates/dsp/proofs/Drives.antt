@@ -154,11 +154,3 @@ tick-on w fp fs start i pcm sheet parts ram h c lanes voices delays bytes acc a 
       put-out = subst (λ (k : ℕ). Written fp (putMid o (u - o) pcm pair) k (d .samples ++ pair)) t (part-written q₁ u pair (omega arith) (y ∙ omega arith));
       shown = subst (λ (k : ℕ). Written fs (putMid a (b - a) lanes (x .slot)) k rows) m (written-on (d .shown) b (l .row ++ x .slot) (omega arith) p₂);
     }
-
-pub sheet-sized : {w : Work} {foundPcm foundSheet : List ℕ} {start : Bench} {i : ℕ} {pcm sheet : List ℕ} {parts : Parts} {ram : List ℕ}
-    → Driven w foundPcm foundSheet start i pcm sheet parts ram → i * 36 ≤ length foundSheet → length sheet ≡ length foundSheet
-sheet-sized d h = sized (d .shown) h
-
-pub pcm-sized : {w : Work} {foundPcm foundSheet : List ℕ} {start : Bench} {i : ℕ} {pcm sheet : List ℕ} {parts : Parts} {ram : List ℕ}
-    → Driven w foundPcm foundSheet start i pcm sheet parts ram → i * 4 ≤ length foundPcm → length pcm ≡ length foundPcm
-pcm-sized d h = sized (d .put-out) h

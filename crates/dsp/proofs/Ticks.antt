@@ -9,7 +9,7 @@ use lib.ListN.{getD, length, length-set}
 use Rattle.numbers.specs.Choice.{if_then_else_, _<?_}
 use Rattle.numbers.proofs.Choice.{chosen}
 use Rattle.numbers.specs.Bits.{bit}
-use Rattle.dsp.specs.Machine.{noVoice, Parts, apart, together}
+use Rattle.dsp.specs.Machine.{noVoice, apart, together}
 use Rattle.dsp.specs.Fit.{FitVoice, FitGlob, Fit}
 use Rattle.dsp.specs.Registers.{turns, resets, silenceVoice, silenceAll, writeParts, writeAt}
 use Rattle.dsp.specs.Sheet.{laneAt}

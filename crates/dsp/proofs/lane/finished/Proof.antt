@@ -8,8 +8,7 @@ use mir.Syntax.{w16}
 use Rattle.numbers.proofs.Range.{landed}
 use Rattle.numbers.specs.Bits.{bit}
 use Rattle.dsp.specs.Mix.{scaledOutput}
-use Rattle.dsp.specs.Lane.{noised, Waiting, cellFrom, cellAfter}
-use Rattle.dsp.specs.declared.play.Play.{Play}
+use Rattle.dsp.specs.Lane.{noised, Waiting, cellAfter}
 use Rattle.dsp.proofs.lane.finished.Statement.{statement}
 use Rattle.dsp.proofs.lane.finished.Tie as tie
 
@@ -39,8 +38,7 @@ returns c =
     let w : Waiting = record { play = a .h .play; samples = a .samples; delay = a .h .delay; envx = a .h .envx } in
     let e = landed w16 {z = n .«current_sample»} (sample-small (c .before .before)) in
     let o = landed w16 (c .before .scaled-output .ok) ∙ c .before .scaled-output .ensures ∙ ap (scaledOutput (n .envelope .phase) (n .envelope .level)) e in
-    (λ i. record { voice = c .with-play .ensures i; delay = a .h .delay; out = o i; envx = a .h .envx; endx = n .endx })
-    ∙ ap (λ (p : Play). cellFrom (a .v) p w) (is-noised (c .before .before .before .before))
+    rw (← is-noised (c .before .before .before .before)) (λ i. record { voice = c .with-play .ensures i; delay = a .h .delay; out = o i; envx = a .h .envx; endx = n .endx })
 
 pub finished-spec : {M : Type 1} → statement M
 finished-spec =

@@ -22,8 +22,7 @@ returns c =
     let kon = rw (mod-eq-of-lt (s .pre .4)) at (c .before .before .before .before .before .before .bit .ensures) in
     let d = c .before .before .before .before .before .delay-of .ensures ∙ (λ i. delayOf (kon i) (a .delay)) in
     let x = c .before .before .before .source-of .ensures ∙ ap (sourceOf (a .c .pmon) (a .j)) (toZ-ofZ w16 (a .prev) (s .fits .prev)) in
-    c .before .waited .ensures
-    ∙ (λ i. waited (a .ram .now) (a .c .dir) (a .srcn) (c .before .before .before .before .settings .ensures i) (a .v .pitch) (x i) (a .envx) (d i) (record { play = c .before .before .before .before .before .before .before .polled .ensures i; samples = a .samples .now }))
+    rw (← x, ← d, ← c .before .before .before .before .settings .ensures, ← c .before .before .before .before .before .before .before .polled .ensures) (c .before .waited .ensures)
 
 pub stepped-spec : {M : Type 1} → statement M
 stepped-spec =

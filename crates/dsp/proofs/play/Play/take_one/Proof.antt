@@ -6,7 +6,7 @@ use lib.ListN.{getD}
 use borrow.Author.Tests.{eq-eqb, ne-eqb}
 use mir.Syntax.{w16}
 use Rattle.numbers.proofs.Range.{landed}
-use Rattle.dsp.specs.Voice.{pushed, nextBlock, takeOne}
+use Rattle.dsp.specs.Voice.{pushed, takeOne}
 use Rattle.dsp.specs.declared.play.Play.{Play}
 use Rattle.dsp.proofs.play.Play.take_one.Statement.{statement}
 use Rattle.dsp.proofs.play.Play.take_one.Tie as tie
@@ -21,8 +21,7 @@ unfolding takeOne
 returns c =
     let a = c .before .before .before .before .before .before .before .before .before .args in
     let h = is-pushed (c .before .before .before .before .before) in
-    rw (eq-eqb _ _ (c .before .before .before .if1 .taken))
-    (c .before .next-block .ensures ∙ ap (λ (p : Play). nextBlock (a .ram .now) (a .dir) (a .srcn) (record { play = p; samples = a .samples .now })) h)
+    rw (eq-eqb _ _ (c .before .before .before .if1 .taken), ← h) (c .before .next-block .ensures)
 
 returns-2 : tie.Need-returns-2
 unfolding takeOne
