@@ -4,7 +4,6 @@ use mathlib.Core.Path.{_∙_}
 use mir.Syntax.{w8, w16}
 use Rattle.numbers.proofs.Range.{landed}
 use Rattle.dsp.specs.Lane.{added, turned}
-use Rattle.dsp.specs.Lane as lanes
 use Rattle.dsp.proofs.lane.lane.Statement.{statement}
 use Rattle.dsp.proofs.lane.lane.Tie as tie
 
