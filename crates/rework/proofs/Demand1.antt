@@ -1,17 +1,14 @@
 -- Demand 1: every entry refuses by document 01's table, and hands back what it got.
-use mathlib.Core.Bool.{true}
 use mathlib.Core.List.{List, _∷_}
-use mathlib.Core.Path.{_≡_, refl, sym, ap, _∙_}
-use Prim.Native.Nat.{ℕ, _*_}
-use lib.ListN.{length}
+use mathlib.Core.Path.{_≡_, refl, sym, _∙_}
+use Prim.Native.Nat.{ℕ}
 use borrow.Author.Tests.{eqb-true}
 use Rattle.numbers.specs.Choice.{if_then_else_, _=?_}
 use Rattle.numbers.proofs.Choice.{tested}
 use Rattle.dsp.specs.Machine.{newDsp}
 use Rattle.dsp.specs.Tick.{everything}
 use Rattle.dsp.proofs.Fits.{new-fit}
-use Rattle.log.specs.Measure.{measureOf}
-use Rattle.sitting.specs.Run.{Outcome, runOf}
+use Rattle.sitting.specs.Run.{runOf}
 use Rattle.rework.specs.Refusals.{_when_, firstOf, ramIsNotWhole}
 use Rattle.rework.specs.Rework.{Left, unreworked, refusalOf, reworkNewOf}
 use Rattle.rework.specs.Demands.{Bytes, Exactly, roomFor, ofRoom, ofLogs, Demand1}

@@ -1,30 +1,25 @@
 -- Demand 3 from the power-on record: where nothing is refused before the first run, the rework of it is not refused either.
-use mathlib.Core.Bool.{true, false, not, false≢true}
+use mathlib.Core.Bool.{true}
 use mathlib.Core.List.{List, [], _∷_}
-use mathlib.Core.Logic.{_≢_}
 use mathlib.Core.Path.{_≡_, refl, sym, ap, _∙_}
 use Prim.Native.Nat.{ℕ, _+_, _*_}
 use native.Mathlib.Omega.{arith}
 use lib.ListN.{length}
-use borrow.Author.Tests.{eqb-true, eqb-false, not-true, not-false}
+use borrow.Author.Tests.{eqb-true, eqb-false}
 use Rattle.numbers.specs.Choice.{_=?_}
 use Rattle.numbers.proofs.Choice.{tested}
 use Rattle.dsp.specs.Machine.{newDsp, apart}
-use Rattle.dsp.specs.Fit.{fit}
 use Rattle.dsp.specs.Tick.{everything, benchOf}
-use Rattle.dsp.specs.declared.registers.Dsp.{Dsp}
-use Rattle.dsp.proofs.Tests.{eq, _and_}
 use Rattle.log.specs.Log.{decode}
 use Rattle.log.specs.Measure.{ticksIn, readingsIn, measureOf}
 use Rattle.log.specs.declared.Record.{Record}
 use Rattle.log.specs.declared.Record.the-variants.{Write, Ticks, Reading}
 use Rattle.log.proofs.Turn.{taken}
 use Rattle.sitting.specs.Run.{Outcome, runOf}
-use Rattle.rework.specs.Alike.{stays, without, sameRecord, sameRecords, alike}
+use Rattle.rework.specs.Alike.{stays, without}
 use Rattle.rework.specs.Members.{modesOf, quiet}
-use Rattle.rework.specs.Rework.{Left, unreworked, refusalOf, reworkOf, afterFirst, reworkNewOf}
+use Rattle.rework.specs.Rework.{Left, refusalOf, reworkOf, afterFirst, reworkNewOf}
 use Rattle.rework.specs.Demands.{Bytes, Reworks, Demand3New}
-use Rattle.rework.proofs.Bits.{itself}
 use Rattle.rework.proofs.Taped.{taped}
 use Rattle.rework.proofs.Sheets.{sumIn, puts, measured-sums}
 use Rattle.rework.proofs.Beats.{quiet-without}

@@ -1,7 +1,6 @@
 -- "`new` is fit and every call keeps it so."
-use mathlib.Core.Bool.{true}
 use mathlib.Core.List.{List, []}
-use mathlib.Core.Path.{_≡_, refl, sym, ap, subst, _∙_}
+use mathlib.Core.Path.{_≡_, sym, ap, subst, _∙_}
 use Prim.Native.Nat.{ℕ, zero, suc, _*_, _%_, _≤_, _<_}
 use native.Mathlib.Omega.{arith}
 use native.Mathlib.Decide.{ℕ-discrete}
@@ -10,10 +9,10 @@ use borrow.Author.Tests.{eqb-true}
 use Rattle.numbers.specs.Choice.{if_then_else_, _<?_, _=?_}
 use Rattle.numbers.proofs.Choice.{tested, chosen}
 use Rattle.numbers.specs.Bits.{bit}
-use Rattle.dsp.specs.Machine.{noVoice, newDsp, Parts, apart, together}
-use Rattle.dsp.specs.Fit.{fit, FitVoice, Fit}
-use Rattle.dsp.specs.Registers.{Written, writeAt, writeOf}
-use Rattle.dsp.specs.Tick.{everything, tickOf, Bench, benchOf, benchTick, ticksOf, After, stepOf, Drove, driveOf}
+use Rattle.dsp.specs.Machine.{noVoice, newDsp, apart, together}
+use Rattle.dsp.specs.Fit.{fit, FitVoice}
+use Rattle.dsp.specs.Registers.{Written, writeOf}
+use Rattle.dsp.specs.Tick.{everything, Bench, benchOf, benchTick, ticksOf, After, stepOf, Drove, driveOf}
 use Rattle.dsp.specs.declared.registers.Dsp.{Dsp}
 use Rattle.dsp.specs.declared.tick.Work.{Work}
 use Rattle.dsp.proofs.Fits.{fit-facts, facts-fit, new-fit, fit-kept-write}

@@ -1,21 +1,21 @@
 -- A log's refusal by document 01's table: what `measureOf` finds is the first fault, and 3 before any.
-use mathlib.Core.Bool.{Bool, true, false, not, _&&_, _||_}
+use mathlib.Core.Bool.{Bool, false}
 use mathlib.Core.List.{List, [], _∷_}
 use mathlib.Core.Path.{_≡_, refl, sym, ap, _∙_}
-use Prim.Native.Nat.{ℕ, zero, suc, _+_, _*_, _≤_, _<_}
+use Prim.Native.Nat.{ℕ, zero, suc, _+_, _≤_}
 use native.Mathlib.Omega.{arith}
 use borrow.Author.Tests.{eqb-true, ne-eqb, le-ltb, ltb-false}
 use lib.ListN.{length}
 use Rattle.numbers.specs.Choice.{if_then_else_, _≤?_, _<?_, _=?_}
 use Rattle.numbers.proofs.Choice.{tested}
-use Rattle.log.specs.Log.{byteIn, writeRecord, ticksRecord, readingRecord, byMark, readAt, Decoded, before, decodeFrom, decode}
+use Rattle.log.specs.Log.{byteIn, writeRecord, ticksRecord, readingRecord, byMark, readAt, before, decodeFrom, decode}
 use Rattle.log.specs.Measure.{ticksIn, readingsIn, unmeasured, total, totalOf, measureOf}
 use Rattle.log.specs.declared.Record.{Record}
 use Rattle.log.specs.declared.Record.the-variants.{Write, Ticks, Reading}
 use Rattle.log.specs.declared.Next.{Next}
 use Rattle.log.specs.declared.Next.the-variants.{On, Off}
 use Rattle.log.specs.declared.Measured.{Measured}
-use Rattle.rework.specs.Refusals.{_when_, firstOf, isTooLong, RW, TK, QA, ND, isKnown, sizeOf, markAt, countAt, faultBy, ticksBy, faultFrom, faultOf}
+use Rattle.rework.specs.Refusals.{_when_, firstOf, isTooLong, RW, TK, QA, ND, sizeOf, markAt, countAt, faultBy, ticksBy, faultFrom, faultOf}
 
 -- ---- the first that applies
 

@@ -7,8 +7,7 @@ use mathlib.Core.Logic.{_≢_}
 use mathlib.Core.Path.{_≡_, refl, sym, ap, _∙_}
 use Prim.Native.Nat.{ℕ, zero, suc, _*_}
 use native.Mathlib.Omega.{arith}
-use lib.IntN.{ℤ}
-use lib.ListN.{getD, set, drop, replicate}
+use lib.ListN.{getD, drop, replicate}
 use lib.Signed.{mag}
 use Rattle.numbers.specs.Choice.{_<?_}
 use Rattle.numbers.specs.Bits.{withBit}

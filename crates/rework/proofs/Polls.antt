@@ -11,19 +11,18 @@ use native.Mathlib.Decide.{ℕ-discrete}
 use lib.IntN.{ℤ}
 use lib.ListN.{getD, set, length, length-set}
 use lib.Seq.{getD-set-same, getD-set-other}
-use Rattle.numbers.specs.Choice.{if_then_else_, _=?_}
+use Rattle.numbers.specs.Choice.{if_then_else_}
 use Rattle.numbers.specs.Signed.{highZ}
 use Rattle.numbers.proofs.Choice.{chosen}
 use Rattle.numbers.specs.Bits.{bit, withBit}
-use Rattle.dsp.specs.Machine.{noVoice, Parts, apart}
+use Rattle.dsp.specs.Machine.{noVoice, apart}
 use Rattle.dsp.specs.Envelope.{isOff}
 use Rattle.dsp.specs.Voice.{withKey}
 use Rattle.dsp.specs.Registers.{turns}
 use Rattle.dsp.specs.Sheet.{laneBytes}
 use Rattle.dsp.specs.Lane.{settingsOf, playOf, voiceOf, keyedOff, keyedOn, delayOf, waited, sourceOf, Cell, polledOf, waitedOf, cellAfter, cellOf, putEndx, putBytes, added, ownCell, turned}
-use Rattle.dsp.specs.Tick.{Round, turn, voicesTick, globTick, sharedFrom, sharedOf, everything, startOf, tickOf}
+use Rattle.dsp.specs.Tick.{Round, turn, voicesTick, globTick, sharedFrom, sharedOf, startOf, tickOf}
 use Rattle.dsp.specs.declared.adsr.EnvelopePhase.the-variants.{Release}
-use Rattle.dsp.specs.declared.lane.Acc.{Acc}
 use Rattle.dsp.specs.declared.lane.Shared.{Shared}
 use Rattle.dsp.specs.declared.voice.Voice.{Voice}
 use Rattle.dsp.specs.declared.play.Play.{Play}

@@ -1,6 +1,6 @@
 -- A tick's row is what the record shows after it.
-use mathlib.Core.Bool.{Bool, true}
-use mathlib.Core.List.{List, [], _∷_, _++_}
+use mathlib.Core.Bool.{Bool}
+use mathlib.Core.List.{List, _++_}
 use mathlib.Core.Logic.{_≢_}
 use mathlib.Core.Path.{_≡_, refl, sym, ap, _∙_}
 use Prim.Native.Nat.{ℕ, zero, suc, _+_, _*_, _≤_, _<_}
@@ -15,13 +15,12 @@ use Rattle.dsp.specs.Mix.{outputOf}
 use Rattle.dsp.specs.Registers.{turns}
 use Rattle.dsp.specs.Sheet.{laneBytes, pairBytes}
 use Rattle.dsp.specs.Echo.{echoTick, echoMoved, echoLane}
-use Rattle.dsp.specs.Lane.{Cell, putBytes, cellAfter, cellOf, ownCell, turned}
+use Rattle.dsp.specs.Lane.{putBytes, cellAfter, cellOf, ownCell, turned}
 use Rattle.dsp.specs.Tick.{Round, turn, voicesTick, everything, startOf, sharedOf, tickOf}
 use Rattle.dsp.specs.declared.lane.Shared.{Shared}
 use Rattle.dsp.specs.declared.voice.Voice.{Voice}
 use Rattle.dsp.proofs.Whole.{full}
-use Rattle.dsp.proofs.Turns.{turns-keep}
-use Rattle.rework.specs.Shown.{laneOf, lanesOf, RowShows}
+use Rattle.rework.specs.Shown.{lanesOf, RowShows}
 use Rattle.rework.proofs.Bits.{bit-here, bit-there}
 
 -- ---- a voice's registers, after ENVX, OUTX and the ENDX bit of voice n were put

@@ -1,7 +1,7 @@
 -- A rework: its refusals in their order, and what it leaves, for any old sheet (document 01, "Rework").
 use mathlib.Core.Bool.{Bool, false, not, _&&_}
-use mathlib.Core.List.{List, [], _∷_, _++_}
-use Prim.Native.Nat.{ℕ, zero, suc, _-_, _/_, _%_}
+use mathlib.Core.List.{List}
+use Prim.Native.Nat.{ℕ, _-_, _/_, _%_}
 use lib.Bits.{bitAnd, bitOr}
 use lib.ListN.{getD, length}
 use Rattle.numbers.specs.Choice.{if_then_else_, _<?_, _=?_}
