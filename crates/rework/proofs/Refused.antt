@@ -12,7 +12,7 @@ use Rattle.numbers.proofs.Choice.{tested}
 use Rattle.dsp.specs.Fit.{fit}
 use Rattle.dsp.specs.Registers.{Written, writeOf}
 use Rattle.dsp.specs.Mix.{Rendered, renderOf}
-use Rattle.dsp.specs.Tick.{After, refused, stepOf, Drove, undriven, driveOf}
+use Rattle.dsp.specs.Tick.{After, refused, stepOf, Drove, drove, undriven, benchOf, ticksOf, driveOf}
 use Rattle.dsp.specs.declared.registers.Dsp.{Dsp}
 use Rattle.dsp.specs.declared.tick.Work.{Work}
 use Rattle.log.specs.Log.{readAt, decode}
@@ -23,7 +23,7 @@ use Rattle.log.specs.declared.Next.{Next}
 use Rattle.log.specs.declared.Next.the-variants.{On, Off}
 use Rattle.log.specs.declared.Measured.{Measured}
 use Rattle.sitting.specs.Run.{Outcome, unrun, runMeasured, runWith}
-use Rattle.sitting.specs.Parts.{Told, Parted, untold, unparted, stopAt, recordAt, nextAt, sounding, logRefusal, partOf}
+use Rattle.sitting.specs.Parts.{Told, Parted, untold, unparted, stopAt, recordAt, nextAt, ticksNow, sounding, logRefusal, partOf}
 use Rattle.rework.specs.Refusals.{_when_, firstOf, ramIsNotWhole, isUnfit, isTooLong, isNotAsLong, faultOf}
 use Rattle.rework.specs.Alike.{alike}
 use Rattle.rework.specs.Members.{modesOf, quiet}
@@ -91,7 +91,9 @@ ticks-exactly w n d ram pcm sheet =
     let conditions = (1 when ramIsNotWhole ram) ∷ (2 when isUnfit d) ∷ (10 when isNotAsLong pcm (n * 4)) ∷ (10 when isNotAsLong sheet (n * 36)) ∷ [] in
     let refusal : Drove → ℕ = (λ a. a .refusal) in
     let P : Drove → Type 0 = (λ a. Exactly refusal a conditions left) in
-    tested P (length ram =? 0x10000) (λ a. tested P (fit d) (λ b. tested P (length pcm =? n * 4) (λ c. tested P (length sheet =? n * 36)
+    let shown = if length sheet =? n * 36 then drove (ticksOf w n (benchOf d ram sheet)) else left 10 in
+    let heard = if length pcm =? n * 4 then shown else left 10 in
+    tested P (length ram =? 0x10000) {x = if fit d then heard else left 2} (λ a. tested P (fit d) {x = heard} (λ b. tested P (length pcm =? n * 4) (λ c. tested P (length sheet =? n * 36)
     (λ e. taking refusal left conditions _ refl (rw (a, b, c, e)))
     (λ e. refusing refusal left conditions 10 refl (rw (a, b, c, e))))
     (λ e. refusing refusal left conditions 10 refl (rw (a, b, e))))
@@ -144,7 +146,8 @@ run-exactly w d ram log pcm sheet readings =
     let z = length readings =? m .readings in
     let r = room-said x y z in
     let l = log-said log (ofRoom log pcm sheet readings) in
-    tested P (length ram =? 0x10000) (λ a. tested P (fit d) (λ b. tested P (m .refusal =? 0) (λ c. tested P (x && y && z)
+    let run = runMeasured w m d ram log pcm sheet readings in
+    tested P (length ram =? 0x10000) {x = if fit d then run else left 2} (λ a. tested P (fit d) {x = run} (λ b. tested P (m .refusal =? 0) (λ c. tested P (x && y && z)
     (λ e. taking refusal left conditions _ refl (rw (a, b) (l ∙ rw c (r ∙ rw e))))
     (λ e. refusing refusal left conditions 10 refl (rw (a, b) (l ∙ rw c (r ∙ rw e)))))
     (λ c. refusing refusal left conditions (m .refusal) refl (rw (a, b) (l ∙ rw c))))
@@ -180,7 +183,10 @@ part-exactly d at left ram log pcm =
     let rest = (if left =? 0 then stopIn (readAt log at) else 0) ∷ (10 when not (left =? 0) && (length pcm <? 4)) ∷ [] in
     let l : firstOf ((3 when isTooLong log) ∷ (if at =? 0 then faultOf log else 0) ∷ rest) ≡ firstOf (logRefusal at log ∷ rest) =
     first-two (3 when isTooLong log) (if at =? 0 then faultOf log else 0) rest ∙ ap (λ (k : ℕ). firstOf (k ∷ rest)) (sym (front-said at log)) in
-    tested P (length ram =? 0x10000) (λ a. tested P (fit d) (λ b. tested P (logRefusal at log =? 0) (λ c. tested P (left =? 0)
+    let heard = if length pcm <? 4 then back 10 else sounding (ticksNow left (length pcm)) d at left ram pcm in
+    let next = if left =? 0 then record { told = nextAt (readAt log at) d at; ram = ram; pcm = pcm } else heard in
+    let checked = if logRefusal at log =? 0 then next else back (logRefusal at log) in
+    tested P (length ram =? 0x10000) {x = if fit d then checked else back 2} (λ a. tested P (fit d) {x = checked} (λ b. tested P (logRefusal at log =? 0) {x = next} (λ c. tested P (left =? 0)
     (λ z.
     let n = next-exactly (readAt log at) d at left (eqb-true left 0 z) in
     (n .0 ∙ sym (rw (a, b) (l ∙ rw (c, z))), λ h. let e = n .1 h in λ i. record { told = e i; ram = ram; pcm = pcm }))
