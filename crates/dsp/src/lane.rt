@@ -9,7 +9,6 @@ ghost use Rattle.dsp.specs.Envelope.{FitSettings};
 ghost use Rattle.dsp.specs.Fit.{FitVoice};
 ghost use Rattle.dsp.specs.Voice.{FitPlay};
 ghost use Rattle.numbers.specs.Choice.{if_then_else_};
-ghost use Rattle.numbers.specs.Bits.{withBit};
 ghost use Rattle.dsp.specs.Sheet.{laneBytes};
 ghost use Rattle.dsp.specs.Lane.{playOf, settingsOf, voiceOf, polledOf, waitedOf, Cell, cellAfter, ownCell, shownCell, keyedOff, keyedOn, delayOf, Waiting, waited, noised, sourceOf, putBytes, newAcc, added, Landed, turned};
 use crate::adsr::Adsr;

@@ -1,7 +1,6 @@
 // Outputs and sums: what a voice gives, the dry sum, and the stereo sample.
 ghost use mathlib.Core.Path.{_≡_};
-ghost use Prim.Native.Nat.{_<_, _≤_};
-ghost use Rattle.numbers.specs.Bits.{bit};
+ghost use Prim.Native.Nat.{_≤_};
 ghost use Rattle.dsp.specs.Mix.{scaledOutput, withVoice, dryOf, masterOf, Levels, Rendered, renderOf};
 use crate::adsr::EnvelopePhase;
 use crate::adsr::is_off;

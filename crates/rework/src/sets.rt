@@ -1,7 +1,5 @@
 // A byte as a set of voices.
 ghost use mathlib.Core.Path.{_≡_};
-ghost use Prim.Native.Nat.{_<_};
-ghost use Rattle.numbers.specs.Bits.{bit, withBit};
 ghost use Rattle.rework.specs.Members.{voicesIn};
 
 // "the number of voices in it": the count of ones of the eight-bit set.
