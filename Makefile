@@ -20,6 +20,7 @@ remark:
 	    echo "It is not asked: target/bin/remark is made for x86-64 alone."; \
 	fi
 c:
+	rt check bench wavfile
 	tools/c/run
 test:
 	.ci/run

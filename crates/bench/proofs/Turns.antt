@@ -13,7 +13,7 @@ use Rattle.log.specs.Log.{readAt}
 use Rattle.log.specs.declared.Record.the-variants.{Write, Ticks, Reading}
 use Rattle.log.specs.declared.Next.{Next}
 use Rattle.log.specs.declared.Next.the-variants.{On, Off}
-use Rattle.sitting.specs.Parts.{Told, Parted, stopAt, recordAt, nextAt, ticksNow, sounding, partOf, Moved}
+use Rattle.sitting.specs.Parts.{Told, Parted, stopAt, recordAt, nextAt, ticksNow, sounding, logRefusal, partOf, Moved}
 use Rattle.sitting.specs.declared.parts.Heard.{Heard}
 use Rattle.sitting.specs.declared.parts.Heard.the-variants.{Nothing, Sound, Reading as Read, End}
 use Rattle.bench.specs.Turn.{Fits, Printed, weight}
@@ -39,9 +39,9 @@ module _ (d : Dsp) (at left : ℕ) (ram log pcm : List ℕ) where
   lies =
       chosen Lies (length ram =? 0x10000)
       (chosen Lies (fit d)
-      (chosen Lies (60000 <? length log) tt
+      (chosen Lies (logRefusal at log =? 0)
       (chosen Lies (left =? 0) (silent (readAt log at))
-      (chosen Lies (length pcm <? 4) tt room))) tt) tt
+      (chosen Lies (length pcm <? 4) tt room)) tt) tt) tt
 
   -- the ticks of a part lie in the buffer
   pub fits : (p : Parted) → p ≡ partOf d at left ram log pcm → Fits (p .told .heard) (length pcm)

@@ -6,9 +6,9 @@ use native.Mathlib.Nat.{le-refl}
 use native.Mathlib.Omega.{arith}
 use Rattle.numbers.specs.Choice.{_=?_}
 use Rattle.numbers.proofs.Choice.{chosen}
+use Rattle.numbers.specs.Bits.{bit}
 use Rattle.dsp.specs.Machine.{newDsp}
 use Rattle.dsp.specs.Registers.{turns}
-use Rattle.dsp.specs.Mix.{bit}
 use Rattle.dsp.specs.declared.registers.Dsp.{Dsp}
 use Rattle.sitting.specs.Run.{runWith, runOf}
 use Rattle.rework.specs.Members.{counted, voicesIn}
@@ -26,14 +26,14 @@ voices-le a = counted-le a 8
 abbrev Few : Left → Type 0
 Few x = x .count ≤ 8
 
-few : (s : ℕ) (start end : Dsp) (ram log₁ log₂ sheet pcm readings : List ℕ) → Few (reworkOf s start end ram log₁ log₂ sheet pcm readings)
+few : (s : ℕ) (start end : Dsp) (ram log₁ log₂ pcm sheet readings : List ℕ) → Few (reworkOf s start end ram log₁ log₂ pcm sheet readings)
 unfolding reworkOf
-few s start end ram log₁ log₂ sheet pcm readings =
+few s start end ram log₁ log₂ pcm sheet readings =
     let a = setOf s start log₂ in
     chosen Few (refusalOf s start end ram log₁ log₂ =? 0) (chosen Few (runWith (only a) start ram log₂ pcm sheet readings .refusal =? 0) (voices-le a) (omega arith)) (omega arith)
 
-pub few-new : (s : ℕ) (ram log₁ log₂ sheet pcm readings : List ℕ) {x : Left} → x ≡ reworkNewOf s ram log₁ log₂ sheet pcm readings → x .count ≤ 8
+pub few-new : (s : ℕ) (ram log₁ log₂ pcm sheet readings : List ℕ) {x : Left} → x ≡ reworkNewOf s ram log₁ log₂ pcm sheet readings → x .count ≤ 8
 unfolding reworkNewOf
-few-new s ram log₁ log₂ sheet pcm readings e =
+few-new s ram log₁ log₂ pcm sheet readings e =
     let o = runOf newDsp ram log₁ pcm sheet readings in
-    subst Few (sym e) (chosen Few (refusalOf s newDsp newDsp ram log₁ log₂ =? 0) (chosen Few (o .refusal =? 0) (few s newDsp (o .dsp) ram log₁ log₂ (o .sheet) (o .pcm) (o .readings)) (omega arith)) (omega arith))
+    subst Few (sym e) (chosen Few (refusalOf s newDsp newDsp ram log₁ log₂ =? 0) (chosen Few (o .refusal =? 0) (few s newDsp (o .dsp) ram log₁ log₂ (o .pcm) (o .sheet) (o .readings)) (omega arith)) (omega arith))

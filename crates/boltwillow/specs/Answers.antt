@@ -18,8 +18,8 @@ playedOf o = record { refusal = o .refusal; ram = o .ram; pcm = o .pcm; sheet = 
 
 pub record Reworked : Type 0 where
   pub answer : ℕ
-  pub sheet : List ℕ
   pub pcm : List ℕ
+  pub sheet : List ℕ
   pub readings : List ℕ
 
 -- in one number: the refusal, the set A above it, and above that the number of voices in A
@@ -27,7 +27,7 @@ abbrev pub answerOf : Left → ℕ
 answerOf x = x .refusal + 0x100 * x .members + 0x10000 * x .count
 
 abbrev pub reworkedOf : Left → Reworked
-reworkedOf x = record { answer = answerOf x; sheet = x .sheet; pcm = x .pcm; readings = x .readings }
+reworkedOf x = record { answer = answerOf x; pcm = x .pcm; sheet = x .sheet; readings = x .readings }
 
 -- in one number: the refusal, and above it the frames
 abbrev pub framesAnswer : Frames → ℕ

@@ -69,9 +69,9 @@ pub extern "C" fn bw_rework(
     sheet: &mut [u8],
     readings: &mut [u8],
 ) -> u32
-    ensures { λ r. ⌜ _≡_ {A = Reworked} (record { answer = r; sheet = now (sheet .exit); pcm = now (pcm .exit); readings = now (readings .exit) }) (reworkedOf (reworkNewOf named (now (ram .entry)) (now («old_log» .entry)) (now («new_log» .entry)) (now (sheet .entry)) (now (pcm .entry)) (now (readings .entry)))) ⌝ }
+    ensures { λ r. ⌜ _≡_ {A = Reworked} (record { answer = r; pcm = now (pcm .exit); sheet = now (sheet .exit); readings = now (readings .exit) }) (reworkedOf (reworkNewOf named (now (ram .entry)) (now («old_log» .entry)) (now («new_log» .entry)) (now (pcm .entry)) (now (sheet .entry)) (now (readings .entry)))) ⌝ }
 {
-    let r = rework_new(named, ram, old_log, new_log, sheet, pcm, readings);
+    let r = rework_new(named, ram, old_log, new_log, pcm, sheet, readings);
     r.refusal as u32 + 0x100 * (r.members as u32) + 0x10000 * r.count
 }
 

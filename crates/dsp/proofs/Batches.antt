@@ -7,10 +7,10 @@ use native.Mathlib.Omega.{arith}
 use lib.ListN.{getD, take, drop, length, length-drop}
 use lib.Seq.{take-append-le, drop-append-le}
 use borrow.Author.Tests.{eq-eqb}
+use Rattle.numbers.specs.Bits.{bit}
 use Rattle.dsp.specs.Machine.{noVoice, Parts}
 use Rattle.dsp.specs.Fit.{Fit}
 use Rattle.dsp.specs.Registers.{writeAt, writeOf}
-use Rattle.dsp.specs.Mix.{bit}
 use Rattle.dsp.specs.Sheet.{laneAt}
 use Rattle.dsp.specs.Echo.{echoLane}
 use Rattle.dsp.specs.Lane.{turned}

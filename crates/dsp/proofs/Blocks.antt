@@ -1,14 +1,15 @@
 -- Laws of RAM addresses, and of a block that is decoded nibble by nibble into a slice.
 use mathlib.Core.Path.{_≡_, refl, sym, ap, _∙_}
 use mathlib.Core.List.{List, [], _∷_, _++_}
-use Prim.Native.Nat.{ℕ, zero, suc, _+_, _*_, _/_, _%_, _<_}
+use Prim.Native.Nat.{ℕ, suc, _+_, _*_, _/_, _%_, _<_}
 use native.Mathlib.Numerals.{add-one}
 use native.Mathlib.Omega.{arith}
 use lib.IntN.{ℤ}
 use lib.ListN.{length, take, set, length-set}
 use lib.Seq.{take-suc-set, take-all}
 use Rattle.numbers.specs.Unsigned.{wrapped}
-use Rattle.dsp.specs.Brr.{byteAt, wordAt, endOf, loopOf, nibbleAt, sampleOf, newest, listed, Decoded, decodeBlock}
+use Rattle.numbers.specs.Listed.{listed}
+use Rattle.dsp.specs.Brr.{byteAt, wordAt, endOf, loopOf, nibbleAt, sampleOf, newest, Decoded, decodeBlock}
 
 -- an address that has wrapped before the sum
 pub wraps : (a k : ℕ) → wrapped (wrapped a + k) ≡ wrapped (a + k)
@@ -24,15 +25,6 @@ word-wraps ram a k =
     let d : wrapped (wrapped a + k + 1) ≡ wrapped (a + k + 1) = omega arith in
     rw (wraps a k, d)
 
-listed-snoc : {A : Type 0} (f : ℕ → A) (k n : ℕ) → listed f (suc k) n ≡ listed f k n ++ (f (n + k) ∷ [])
-listed-snoc f zero n = let z : n ≡ n + 0 = omega arith in ap (λ (j : ℕ). f j ∷ []) z
-listed-snoc f (suc k) n =
-    let z : suc n + k ≡ n + suc k = omega arith in
-    ap (λ (l : List _). f n ∷ l) (listed-snoc f k (suc n) ∙ ap (λ (j : ℕ). listed f k (suc n) ++ (f j ∷ [])) z)
-
-listed-last : {A : Type 0} (f : ℕ → A) (k : ℕ) → listed f (suc k) 0 ≡ listed f k 0 ++ (f k ∷ [])
-listed-last f k = let z : 0 + k ≡ k = omega arith in listed-snoc f k 0 ∙ ap (λ (j : ℕ). listed f k 0 ++ (f j ∷ [])) z
-
 module _ (ram : List ℕ) (a : ℕ) (p1 p2 : ℤ) where
   abbrev sample : ℕ → ℤ
   sample k = newest ram a p1 p2 (suc k) .prev1
@@ -40,23 +32,23 @@ module _ (ram : List ℕ) (a : ℕ) (p1 p2 : ℤ) where
   -- k nibbles are decoded: their samples stand at the front, and these are the two newest
   pub record UpTo (k : ℕ) (samples : List ℤ) (n1 n2 : ℤ) : Type 0 where
     pub sized : length samples ≡ 16
-    pub front : take k samples ≡ listed sample k 0
+    pub front : take k samples ≡ listed sample k
     pub first : n1 ≡ newest ram a p1 p2 k .prev1
     pub second : n2 ≡ newest ram a p1 p2 k .prev2
 
   pub none : (samples : List ℤ) → length samples ≡ 16 → UpTo 0 samples p1 p2
-  unfolding newest
+  unfolding newest listed
   none samples h = record { sized = h; front = refl; first = refl; second = refl }
 
   one-more : (k : ℕ) (samples : List ℤ) (n1 n2 s : ℤ) → k < 16 → UpTo k samples n1 n2
       → s ≡ sampleOf (byteAt ram a) (nibbleAt ram a k) n1 n2 → UpTo (suc k) (set samples k s) s n1
-  unfolding newest
+  unfolding newest listed
   one-more k samples n1 n2 s l u e =
       let l′ : k < length samples = omega (arith, u .sized) in
       let d : s ≡ sample k = e ∙ (λ i. sampleOf (byteAt ram a) (nibbleAt ram a k) (u .first i) (u .second i)) in
       record {
         sized = length-set samples k s ∙ u .sized;
-        front = take-suc-set samples k s l′ ∙ (λ i. u .front i ++ (d i ∷ [])) ∙ sym (listed-last sample k);
+        front = take-suc-set samples k s l′ ∙ (λ i. u .front i ++ (d i ∷ []));
         first = d;
         second = u .first;
       }
@@ -97,7 +89,7 @@ module _ (ram : List ℕ) (a : ℕ) (p1 p2 : ℤ) where
       let h = eh ∙ ap (byteAt ram) z in
       let t = take-all k samples (omega (arith, u .sized)) in
       λ i. record {
-        samples = (sym t ∙ u .front ∙ ap (λ (j : ℕ). listed sample j 0) e) i;
+        samples = (sym t ∙ u .front ∙ ap (λ (j : ℕ). listed sample j) e) i;
         prev1 = (u .first ∙ ap (λ (j : ℕ). newest ram a p1 p2 j .prev1) e) i;
         prev2 = (u .second ∙ ap (λ (j : ℕ). newest ram a p1 p2 j .prev2) e) i;
         end = endOf (h i);

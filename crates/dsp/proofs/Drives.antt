@@ -12,9 +12,10 @@ use lib.Seq.{drop-drop}
 use borrow.Rule.Slice.PartMut.{putMid, midOf}
 use Rattle.numbers.proofs.Choice.{chosen}
 use Rattle.numbers.proofs.Parts.{Written, written-to, rest-is, part-found, part-written, sized, written-on}
+use Rattle.numbers.specs.Bits.{bit}
 use Rattle.dsp.specs.Machine.{noVoice, Parts}
 use Rattle.dsp.specs.Registers.{turns}
-use Rattle.dsp.specs.Mix.{bit, masterOf}
+use Rattle.dsp.specs.Mix.{masterOf}
 use Rattle.dsp.specs.Sheet.{pairBytes, laneBytes, laneAt}
 use Rattle.dsp.specs.Echo.{EchoLane, echoLane}
 use Rattle.dsp.specs.Lane.{Landed, turned}
@@ -103,7 +104,7 @@ pub record Driven (w : Work) (foundPcm foundSheet : List ℕ) (start : Bench) (i
   pub rows : List ℕ
   pub fit : BenchFit (benchAt parts ram samples rows (drop (i * 36) foundSheet))
   pub is : benchAt parts ram samples rows (drop (i * 36) foundSheet) ≡ ticksOf w i start
-  pub heard : Written foundPcm pcm (i * 4) samples
+  pub put-out : Written foundPcm pcm (i * 4) samples
   pub shown : Written foundSheet sheet (i * 36) rows
 
 echo-sized : (w : Bool) (g : Glob) (taps left right : List ℤ) (ram : List ℕ) (input : Stereo) (slot : List ℕ) → length slot ≡ 4
@@ -144,20 +145,12 @@ tick-on w fp fs start i pcm sheet parts ram h c lanes voices delays bytes acc a 
     let p₁ = part-written v b (x .slot) (omega arith) (s ∙ omega arith) in
     let p₂ = subst (λ (z : List ℕ). Written sheet (putMid a (b - a) lanes (x .slot)) b z) (append-assoc (take (i * 36) sheet) (l .row) (x .slot)) p₁ in
     let y : length pair ≡ 4 = ap (λ (z : List ℕ). length z) ep in
-    let q₁ = subst (λ (k : ℕ). Written fp pcm k (d .samples)) (sym eo) (d .heard) in
+    let q₁ = subst (λ (k : ℕ). Written fp pcm k (d .samples)) (sym eo) (d .put-out) in
     record {
       samples = d .samples ++ pair;
       rows = rows;
       fit = subst BenchFit (sym e₂) (fit-kept-bench w b₀ (d .fit));
       is = e₂ ∙ ap (benchTick w) (d .is) ∙ ap (λ (k : ℕ). ticksOf w k start) (sym (add-one i));
-      heard = subst (λ (k : ℕ). Written fp (putMid o (u - o) pcm pair) k (d .samples ++ pair)) t (part-written q₁ u pair (omega arith) (y ∙ omega arith));
+      put-out = subst (λ (k : ℕ). Written fp (putMid o (u - o) pcm pair) k (d .samples ++ pair)) t (part-written q₁ u pair (omega arith) (y ∙ omega arith));
       shown = subst (λ (k : ℕ). Written fs (putMid a (b - a) lanes (x .slot)) k rows) m (written-on (d .shown) b (l .row ++ x .slot) (omega arith) p₂);
     }
-
-pub sheet-sized : {w : Work} {foundPcm foundSheet : List ℕ} {start : Bench} {i : ℕ} {pcm sheet : List ℕ} {parts : Parts} {ram : List ℕ}
-    → Driven w foundPcm foundSheet start i pcm sheet parts ram → i * 36 ≤ length foundSheet → length sheet ≡ length foundSheet
-sheet-sized d h = sized (d .shown) h
-
-pub pcm-sized : {w : Work} {foundPcm foundSheet : List ℕ} {start : Bench} {i : ℕ} {pcm sheet : List ℕ} {parts : Parts} {ram : List ℕ}
-    → Driven w foundPcm foundSheet start i pcm sheet parts ram → i * 4 ≤ length foundPcm → length pcm ≡ length foundPcm
-pcm-sized d h = sized (d .heard) h

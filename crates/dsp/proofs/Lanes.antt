@@ -3,14 +3,14 @@ use mathlib.Core.Bool.{Bool, not, _&&_}
 use mathlib.Core.List.{List}
 use mathlib.Core.Logic.{inl}
 use mathlib.Core.Path.{refl}
-use Prim.Native.Nat.{ℕ, _-_, _≤_}
+use Prim.Native.Nat.{ℕ, _≤_}
 use native.Mathlib.Omega.{arith}
 use lib.IntN.{ℤ}
 use Rattle.numbers.specs.Choice.{if_then_else_, _=?_}
 use Rattle.numbers.proofs.Choice.{chosen}
+use Rattle.numbers.specs.Bits.{bit}
 use Rattle.dsp.specs.Envelope.{FitSettings, isOff}
 use Rattle.dsp.specs.Fit.{FitVoice}
-use Rattle.dsp.specs.Mix.{bit}
 use Rattle.dsp.specs.Voice.{FitPlay, Sounding}
 use Rattle.dsp.specs.Lane.{ownCell, shownCell, playOf, settingsOf, keyedOff, keyedOn, delayOf, Waiting, waited, noised, sourceOf, polledOf, waitedOf, Cell, cellAfter, cellOf}
 use Rattle.dsp.specs.declared.adsr.Settings.{Settings}

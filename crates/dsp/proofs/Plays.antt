@@ -9,11 +9,12 @@ use native.Mathlib.Decide.{decLt}
 use borrow.Author.Tests.{eq-eqb, ne-eqb}
 use lib.IntN.{ℤ}
 use lib.ListN.{length}
+use Rattle.numbers.specs.Listed.{listed}
 use Rattle.numbers.specs.Choice.{_≤?_, _=?_}
 use Rattle.numbers.proofs.Choice.{chosen, least-le}
 use Rattle.dsp.specs.Brr.{wordAt, decodeBlock}
 use Rattle.dsp.specs.Envelope.{FitEnvelope, FitSettings, envelopeTick}
-use Rattle.dsp.specs.Voice.{Sounding, Stepped, FitBlock, FitPlay, pitchOf, positionOf, samplesTaken, muted, filled, placed, decodedAt, nextAddress, nextBlock, resolved, heard, heardNext, lastOf, takeOne, consume, withEnvelope, withPosition, idle, advanced, interpolated, shown, sounded, voiceStep}
+use Rattle.dsp.specs.Voice.{Sounding, Stepped, FitBlock, FitPlay, pitchOf, positionOf, samplesTaken, muted, filled, placed, decodedAt, nextAddress, nextBlock, resolved, pushed, pushedNext, lastOf, takeOne, consume, withEnvelope, withPosition, idle, advanced, interpolated, shown, sounded, voiceStep}
 use Rattle.dsp.specs.declared.adsr.Settings.{Settings}
 use Rattle.dsp.specs.declared.play.Source.{Source}
 use Rattle.dsp.specs.declared.play.Play.{Play}
@@ -44,12 +45,12 @@ abbrev Sized : Sounding → Type 0
 Sized s = length (s .samples) ≡ 16
 
 decoded-sized : (ram : List ℕ) (a : ℕ) (s : Sounding) → length (decodedAt ram a s .samples) ≡ 16
-unfolding decodedAt decodeBlock
+unfolding decodedAt decodeBlock listed
 decoded-sized ram a s = refl
 
 pub taken-sized : (ram : List ℕ) (dir srcn : ℕ) (s : Sounding) → length (s .samples) ≡ 16 → length (takeOne ram dir srcn s .samples) ≡ 16
 unfolding takeOne nextBlock
-taken-sized ram dir srcn s h = chosen Sized (lastOf s) (decoded-sized ram (nextAddress ram dir srcn (heardNext s .play)) (heardNext s)) h
+taken-sized ram dir srcn s h = chosen Sized (lastOf s) (decoded-sized ram (nextAddress ram dir srcn (pushedNext s .play)) (pushedNext s)) h
 
 pub resolved-sized : (ram : List ℕ) (s : Sounding) → length (s .samples) ≡ 16 → length (resolved ram s .samples) ≡ 16
 unfolding resolved
@@ -77,12 +78,12 @@ decoded-ready ram a s =
     placed-block a (d .prev1) (d .prev2) (d .end) (d .loops) (s .play)
 
 pub taken-ready : (ram : List ℕ) (dir srcn : ℕ) (s : Sounding) → FitBlock (s .play) → FitBlock (takeOne ram dir srcn s .play)
-unfolding takeOne nextBlock heard
+unfolding takeOne nextBlock pushed
 taken-ready ram dir srcn s h =
     let n = h .nibble in
     elim (decLt (s .play .«nibble_idx») 15) [
       | yes l ↦ rw (ne-eqb _ _ (λ (e : s .play .«nibble_idx» ≡ 15). omega arith)) (record { nibble = omega arith; fill = h .fill })
-      | no l ↦ let e : s .play .«nibble_idx» ≡ 15 = omega arith in rw (eq-eqb _ _ e) (decoded-ready ram (nextAddress ram dir srcn (heardNext s .play)) (heardNext s))
+      | no l ↦ let e : s .play .«nibble_idx» ≡ 15 = omega arith in rw (eq-eqb _ _ e) (decoded-ready ram (nextAddress ram dir srcn (pushedNext s .play)) (pushedNext s))
     ]
 
 consumed-ready : (ram : List ℕ) (dir srcn n : ℕ) (s : Sounding) → FitBlock (s .play) → FitBlock (consume ram dir srcn n s .play)
@@ -115,10 +116,10 @@ unfolding decodedAt
 decoded-apt ram a s h = let d = decodeBlock ram a (s .play .prev1) (s .play .prev2) in placed-apt a (d .prev1) (d .prev2) (d .end) (d .loops) (s .play) h
 
 taken-apt : (ram : List ℕ) (dir srcn : ℕ) (s : Sounding) → Apt (s .play) → Apt (takeOne ram dir srcn s .play)
-unfolding takeOne nextBlock heard
+unfolding takeOne nextBlock pushed
 taken-apt ram dir srcn s h =
-    let g : Apt (heardNext s .play) = record { envelope = h .envelope; position = h .position } in
-    chosen (λ (t : Sounding). Apt (t .play)) (lastOf s) (decoded-apt ram (nextAddress ram dir srcn (heardNext s .play)) (heardNext s) g) g
+    let g : Apt (pushedNext s .play) = record { envelope = h .envelope; position = h .position } in
+    chosen (λ (t : Sounding). Apt (t .play)) (lastOf s) (decoded-apt ram (nextAddress ram dir srcn (pushedNext s .play)) (pushedNext s) g) g
 
 consumed-apt : (ram : List ℕ) (dir srcn n : ℕ) (s : Sounding) → Apt (s .play) → Apt (consume ram dir srcn n s .play)
 unfolding consume

@@ -8,10 +8,10 @@ use lib.IntN.{ℤ}
 use lib.ListN.{getD, length, length-set}
 use Rattle.numbers.specs.Choice.{if_then_else_, _<?_}
 use Rattle.numbers.proofs.Choice.{chosen}
-use Rattle.dsp.specs.Machine.{noVoice, Parts, apart, together}
+use Rattle.numbers.specs.Bits.{bit}
+use Rattle.dsp.specs.Machine.{noVoice, apart, together}
 use Rattle.dsp.specs.Fit.{FitVoice, FitGlob, Fit}
 use Rattle.dsp.specs.Registers.{turns, resets, silenceVoice, silenceAll, writeParts, writeAt}
-use Rattle.dsp.specs.Mix.{bit}
 use Rattle.dsp.specs.Sheet.{laneAt}
 use Rattle.dsp.specs.Echo.{EchoLane, echoTick, echoWritten, echoStored, echoFrom, echoLane}
 use Rattle.dsp.specs.Lane.{Cell, ownCell, shownCell, putBytes, turned}
@@ -146,13 +146,6 @@ pub fit-kept-ticks : (w : Work) (n : ℕ) (b : Bench) → BenchFit b → BenchFi
 unfolding ticksOf
 fit-kept-ticks w zero b h = h
 fit-kept-ticks w (suc n) b h = fit-kept-bench w (ticksOf w n b) (fit-kept-ticks w n b h)
-
--- a record and its parts
-pub together-apart : (d : Dsp) → together (apart d) ≡ d
-together-apart d = refl
-
-pub apart-together : (p : Parts) → apart (together p) ≡ p
-apart-together p = refl
 
 -- the record of fit parts is fit
 pub bench-fit : (b : Bench) → BenchFit b → Fit (together (b .parts))

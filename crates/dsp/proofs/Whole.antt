@@ -7,9 +7,10 @@ use native.Mathlib.Omega.{arith}
 use borrow.Author.Count.{below-none, below-more}
 use lib.IntN.{ℤ}
 use lib.ListN.{getD, set, length}
+use Rattle.numbers.specs.Bits.{bit}
 use Rattle.dsp.specs.Machine.{noVoice, Parts, globOf, apart, together}
 use Rattle.dsp.specs.Registers.{turns}
-use Rattle.dsp.specs.Mix.{bit, outputOf, silent, heard, dryTurn, dryOf, masterOf, renderOf}
+use Rattle.dsp.specs.Mix.{outputOf, silent, withVoice, dryTurn, dryOf, masterOf, renderOf}
 use Rattle.dsp.specs.Sheet.{pairBytes}
 use Rattle.dsp.specs.Fit.{Fit}
 use Rattle.dsp.specs.Echo.{echoLane}
@@ -56,7 +57,7 @@ dry-before : (vs : List Voice) (y : Voice) (n k : ℕ) (s : Stereo) → k ≤ n 
 unfolding dryTurn
 dry-before vs y n k s l =
     turns-same (dryTurn (set vs n y)) (dryTurn vs) n
-    (λ m a h. ap (λ (v : Voice). heard (outputOf v) (v .«left_vol») (v .«right_vol») a) (set-there noVoice vs n m y h)) k s l
+    (λ m a h. ap (λ (v : Voice). withVoice (outputOf v) (v .«left_vol») (v .«right_vol») a) (set-there noVoice vs n m y h)) k s l
 
 -- after n voices the dry sum is that of the first n, as they now stand
 dry-after : (old : List ℕ) (c : Shared) (ram : List ℕ) (n : ℕ) (r : Round) → n ≤ 8 → RoundFit r → r .acc .dry ≡ silent
@@ -70,8 +71,8 @@ dry-after old c ram (suc n) r l f e =
     let y = x .voice in
     let h = set-here noVoice (s .voices) n y (omega (arith, g .count)) in
     rw (full n (omega arith))
-    ((λ i. heard (out-is c ram n (s .acc .prev) (getD (s .voices) n noVoice) (getD (s .delays) n 0) (s .bytes) i) (y .«left_vol») (y .«right_vol») ((dry-after old c ram n r (omega arith) f e ∙ sym (dry-before (s .voices) y n n silent (omega arith))) i))
-    ∙ (λ i. heard (outputOf (sym h i)) (sym h i .«left_vol») (sym h i .«right_vol») (turns (dryTurn (set (s .voices) n y)) n silent)))
+    ((λ i. withVoice (out-is c ram n (s .acc .prev) (getD (s .voices) n noVoice) (getD (s .delays) n 0) (s .bytes) i) (y .«left_vol») (y .«right_vol») ((dry-after old c ram n r (omega arith) f e ∙ sym (dry-before (s .voices) y n n silent (omega arith))) i))
+    ∙ (λ i. withVoice (outputOf (sym h i)) (sym h i .«left_vol») (sym h i .«right_vol») (turns (dryTurn (set (s .voices) n y)) n silent)))
 
 -- the sample of a tick is the stereo sample of the record that it leaves
 pub tick-renders : (d : Dsp) (ram old : List ℕ) → length ram ≡ 0x10000 → length (d .registers) ≡ 128 → length (d .voices) ≡ 8 → length (d .«kon_delay») ≡ 8 → Fit d

@@ -1,9 +1,10 @@
 -- BRR: bytes of RAM at addresses that wrap, and the 16 samples of a block.
 use mathlib.Core.Bool.{Bool}
-use mathlib.Core.List.{List, [], _∷_}
+use mathlib.Core.List.{List}
 use Prim.Native.Nat.{ℕ, zero, suc, _+_, _*_, _/_, _%_}
 use lib.IntN.{ℤ, pos}
 use lib.ListN.{getD}
+use Rattle.numbers.specs.Listed.{listed}
 use Rattle.numbers.specs.Choice.{if_then_else_, _=?_}
 use Rattle.numbers.specs.Unsigned.{wrapped}
 -- what the public decode_brr_nibble gives
@@ -57,11 +58,6 @@ newest ram a p1 p2 (suc k) =
       prev2 = newest ram a p1 p2 k .prev1;
     }
 
--- f at n, n + 1, .. , count values
-abbrev pub listed : {A : Type 0} → (ℕ → A) → ℕ → ℕ → List A
-listed f zero n = []
-listed f (suc count) n = f n ∷ listed f count (suc n)
-
 pub record Decoded : Type 0 where
   pub samples : List ℤ
   pub prev1 : ℤ
@@ -73,7 +69,7 @@ pub record Decoded : Type 0 where
 unfoldable pub decodeBlock : List ℕ → ℕ → ℤ → ℤ → Decoded
 decodeBlock ram a p1 p2 =
     record {
-      samples = listed (λ k. newest ram a p1 p2 (suc k) .prev1) 16 0;
+      samples = listed (λ k. newest ram a p1 p2 (suc k) .prev1) 16;
       prev1 = newest ram a p1 p2 16 .prev1;
       prev2 = newest ram a p1 p2 16 .prev2;
       end = endOf (byteAt ram a);

@@ -7,9 +7,9 @@ use lib.ListN.{getD, set}
 use Rattle.numbers.specs.Choice.{if_then_else_, _≤?_, _=?_}
 use Rattle.numbers.specs.Signed.{lowZ, highZ}
 use Rattle.numbers.specs.Unsigned.{wrapped}
+use Rattle.numbers.specs.Bits.{bit}
 use Rattle.sound.specs.Sound.{joined, fedBack, firOf, movedOn}
 use Rattle.dsp.specs.Brr.{byteAt}
-use Rattle.dsp.specs.Mix.{bit}
 use Rattle.dsp.specs.Sheet.{pairBytes}
 use Rattle.dsp.specs.declared.mix.Stereo.{Stereo}
 use Rattle.dsp.specs.declared.registers.Glob.{Glob}

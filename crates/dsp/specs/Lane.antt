@@ -1,17 +1,17 @@
 -- One lane of the machine for one tick: what a voice depends on stands in `cellOf`, and what it leaves in `landed`.
 use mathlib.Core.Bool.{Bool, true, false, not, _&&_}
 use mathlib.Core.List.{List}
-use Prim.Native.Nat.{ℕ, _+_, _-_, _*_, _%_, _^_}
-use lib.Bits.{bitAnd, bitOr}
+use Prim.Native.Nat.{ℕ, _+_, _-_, _*_, _%_}
 use lib.IntN.{ℤ, pos}
 use lib.ListN.{getD, set, replicate}
 use Rattle.numbers.specs.Choice.{if_then_else_, _=?_}
 use Rattle.numbers.specs.Signed.{highZ}
 use Rattle.numbers.specs.Unsigned.{wrapped}
+use Rattle.numbers.specs.Bits.{bit, withBit}
 use Rattle.sound.specs.Sound.{even, joined}
 use Rattle.dsp.specs.Envelope.{isOff}
 use Rattle.dsp.specs.Voice.{Sounding, Stepped, withKey, withSample, entryOf, voiceStep}
-use Rattle.dsp.specs.Mix.{bit, scaledOutput, silent, heard}
+use Rattle.dsp.specs.Mix.{scaledOutput, silent, withVoice}
 use Rattle.dsp.specs.Sheet.{laneBytes}
 use Rattle.dsp.specs.declared.adsr.EnvelopePhase.the-variants.{Attack, Release}
 use Rattle.dsp.specs.declared.adsr.Settings.{Settings}
@@ -191,12 +191,6 @@ shownCell slot v delay =
 
 -- ---- what a lane leaves
 
--- a byte with bit n as given
-unfoldable pub withBit : ℕ → ℕ → Bool → ℕ
-withBit x n on =
-    if on then bitOr x (2 ^ n) else
-    bitAnd x (255 - 2 ^ n)
-
 -- the ENDX bit of voice j
 abbrev pub putEndx : ℕ → Bool → List ℕ → List ℕ
 putEndx j endx bytes = set bytes 0x7C (withBit (getD bytes 0x7C 0) j endx)
@@ -213,8 +207,8 @@ unfoldable pub added : Bool → ℤ → ℤ → ℤ → Acc → Acc
 added echo out left right a =
     record {
       prev = even out;
-      dry = heard out left right (a .dry);
-      input = if echo then heard out left right (a .input) else (a .input);
+      dry = withVoice out left right (a .dry);
+      input = if echo then withVoice out left right (a .input) else (a .input);
     }
 
 -- slot: the voice's lane of the sheet, which is rewritten where the voice is worked

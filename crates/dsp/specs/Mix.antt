@@ -1,10 +1,11 @@
 -- Outputs and sums: what a voice gives, the dry sum, and the stereo sample.
-use mathlib.Core.Bool.{Bool, _||_}
+use mathlib.Core.Bool.{_||_}
 use mathlib.Core.List.{List}
-use Prim.Native.Nat.{ℕ, _/_, _%_, _^_, _≤_, _<_}
+use Prim.Native.Nat.{ℕ, _≤_, _<_}
 use lib.IntN.{ℤ, pos}
 use lib.ListN.{getD}
-use Rattle.numbers.specs.Choice.{if_then_else_, _=?_}
+use Rattle.numbers.specs.Choice.{if_then_else_}
+use Rattle.numbers.specs.Bits.{bit}
 use Rattle.sound.specs.Sound.{levelledZ, summed, mastered}
 use Rattle.dsp.specs.Machine.{noVoice, globOf}
 use Rattle.dsp.specs.Registers.{turns}
@@ -15,10 +16,6 @@ use Rattle.dsp.specs.declared.voice.Voice.{Voice}
 use Rattle.dsp.specs.declared.mix.Stereo.{Stereo}
 use Rattle.dsp.specs.declared.registers.Dsp.{Dsp}
 use Rattle.dsp.specs.declared.registers.Glob.{Glob}
-
--- bit n of a byte
-abbrev pub bit : ℕ → ℕ → Bool
-bit x n = x / 2 ^ n % 2 =? 1
 
 -- scaled output: sample × level >> 11, or 0 in phase Off
 unfoldable pub scaledOutput : EnvelopePhase → ℕ → ℤ → ℤ
@@ -33,11 +30,11 @@ abbrev pub silent : Stereo
 silent = record { l = pos 0; r = pos 0 }
 
 -- an output by a voice's two volumes, added to both sums, each clamped
-unfoldable pub heard : ℤ → ℤ → ℤ → Stereo → Stereo
-heard out left right s = record { l = summed (s .l) out left; r = summed (s .r) out right }
+unfoldable pub withVoice : ℤ → ℤ → ℤ → Stereo → Stereo
+withVoice out left right s = record { l = summed (s .l) out left; r = summed (s .r) out right }
 
 unfoldable pub dryTurn : List Voice → ℕ → Stereo → Stereo
-dryTurn vs n s = heard (outputOf (getD vs n noVoice)) (getD vs n noVoice .«left_vol») (getD vs n noVoice .«right_vol») s
+dryTurn vs n s = withVoice (outputOf (getD vs n noVoice)) (getD vs n noVoice .«left_vol») (getD vs n noVoice .«right_vol») s
 
 -- voice after voice
 unfoldable pub dryOf : List Voice → Stereo

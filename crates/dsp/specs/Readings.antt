@@ -1,18 +1,18 @@
--- The readings that document 01 asks to be proved, as one list: what the definitions say beside what the document says.
+-- The readings that document 01 asks to be proved, as one list: what the definitions say beside what the document says. P7 names no base
+-- pitch, and is claimed of every one.
 use mathlib.Core.Bool.{true, false}
 use mathlib.Core.List.{List, [], _∷_, map}
 use mathlib.Core.Path.{_≡_}
 use Prim.Native.Nat.{ℕ}
 use lib.IntN.{ℤ, pos}
 use Rattle.numbers.specs.Signed.{minus}
-use Rattle.numbers.specs.Unsigned.{wrapped}
 use Rattle.sound.specs.Sound.{mastered}
 use Rattle.sound.specs.Brr.{decodeNibble}
 use Rattle.sound.specs.Noise.{shifted}
 use Rattle.dsp.specs.Envelope.{envelopeTick}
 use Rattle.dsp.specs.Machine.{newVoice}
-use Rattle.dsp.specs.Voice.{pitchOf, samplesTaken, entryOf}
-use Rattle.dsp.specs.Lane.{playOf}
+use Rattle.dsp.specs.Voice.{pitchOf, samplesTaken}
+use Rattle.dsp.specs.Lane.{playOf, keyedOn}
 use Rattle.dsp.specs.declared.adsr.EnvelopePhase.the-variants.{Decay}
 use Rattle.dsp.specs.declared.adsr.Envelope.{Envelope}
 use Rattle.dsp.specs.declared.play.Source.the-variants.{From}
@@ -41,8 +41,8 @@ deepest =
 abbrev dueDecay : ℕ → Envelope
 dueDecay level = record { level = level; phase = Decay; counter = 63 }
 
-abbrev pub readings : List Reading
-readings =
+abbrev pub readings : ℕ → List Reading
+readings base =
     -- P1 nibble -8, shift 12, filter 0
     (decodeNibble (minus 8) 12 0 (pos 0) (pos 0) reads minus 32768)
     -- P2 -1, shift 13, filter 0; and 5
@@ -59,7 +59,7 @@ readings =
     ∷ (pos (shifted 0x4000) reads pos 0x2000)
     ∷ (pos (shifted 0x0001) reads pos 0x4000)
     -- P7 pitch source -32768
-    ∷ (pos (pitchOf 0x3FFF (From (minus 32768))) reads pos 0)
+    ∷ (pos (pitchOf base (From (minus 32768))) reads pos 0)
     -- P8 source 32766, base $3FFF; from position 0, 7 samples
     ∷ (pos (pitchOf 0x3FFF (From (pos 32766))) reads pos 32750)
     ∷ (pos (samplesTaken (playOf false newVoice) 0x3FFF (From (pos 32766))) reads pos 7)
@@ -67,10 +67,10 @@ readings =
     ∷ (pos (envelopeTick deepest (dueDecay 0x7FF) .level) reads pos 0x800)
     -- P10 dry -32768, master -128
     ∷ (mastered (minus 32768) (minus 128) (pos 0) (pos 0) reads minus 32768)
-    -- P11 DIR $FF, SRCN $40: entry $0000
-    ∷ (pos (wrapped (entryOf 0xFF 0x40)) reads pos 0)
+    -- P11 DIR $FF, SRCN $40: a key-on takes entry $0000
+    ∷ (pos (keyedOn true 0xFF 0x40 (playOf false newVoice) .addr) reads pos 0)
     ∷ []
 
 -- the claim
 abbrev pub AllAsTheDocument : Type 0
-AllAsTheDocument = map (λ (r : Reading). r .says) readings ≡ map (λ (r : Reading). r .wanted) readings
+AllAsTheDocument = (base : ℕ) → map (λ (r : Reading). r .says) (readings base) ≡ map (λ (r : Reading). r .wanted) (readings base)

@@ -1,15 +1,17 @@
--- One tick of the machine: poll, noise, voices 0 to 7, echo, mix; and ticks one after another.
+-- One tick of the machine: the noise, voices 0 to 7, each with its own poll, then echo and mix; and ticks one after another. That all voices
+-- polled before the noise make the same tick, as document 01 has it, is `PollFirst` (rework, specs/Order).
 use mathlib.Core.Bool.{Bool, true, not, _&&_}
 use mathlib.Core.List.{List, [], _++_}
 use Prim.Native.Nat.{ℕ, zero, suc, _*_}
 use lib.IntN.{ℤ}
 use lib.ListN.{getD, set, length, drop}
 use Rattle.numbers.specs.Choice.{if_then_else_, _=?_, _<?_}
+use Rattle.numbers.specs.Bits.{bit}
 use Rattle.dsp.specs.Machine.{noVoice, Parts, apart, together}
 use Rattle.dsp.specs.Fit.{fit}
 use Rattle.dsp.specs.Registers.{turns, writeParts}
 use Rattle.dsp.specs.Noise.{noiseTick, noiseSample}
-use Rattle.dsp.specs.Mix.{bit, masterOf}
+use Rattle.dsp.specs.Mix.{masterOf}
 use Rattle.dsp.specs.Sheet.{pairBytes, laneAt}
 use Rattle.dsp.specs.Echo.{Echo, EchoLane, echoLane}
 use Rattle.dsp.specs.Lane.{newAcc, Landed, turned}
@@ -81,7 +83,7 @@ globTick g =
       «echo_out_r» = g .«echo_out_r»;
     }
 
--- KON is held back while FLG bit 7 is set
+-- "then KON unless FLG bit 7": the poll uses up the pending KON all the same
 unfoldable pub sharedFrom : Glob → Noise → ℕ → ℕ → Shared
 sharedFrom g noise koff dir =
     record {

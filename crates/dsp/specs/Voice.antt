@@ -151,8 +151,8 @@ resolved ram s =
 -- ---- samples, one by one
 
 -- a sample goes into the history of four, oldest first
-unfoldable pub heard : ℤ → Play → Play
-heard x p =
+unfoldable pub pushed : ℤ → Play → Play
+pushed x p =
     record {
       «key_on» = p .«key_on»;
       envelope = p .envelope;
@@ -168,8 +168,8 @@ heard x p =
       endx = p .endx;
     }
 
-abbrev pub heardNext : Sounding → Sounding
-heardNext s = record { play = heard (getD (s .samples) (s .play .«nibble_idx») (pos 0)) (s .play); samples = s .samples }
+abbrev pub pushedNext : Sounding → Sounding
+pushedNext s = record { play = pushed (getD (s .samples) (s .play .«nibble_idx») (pos 0)) (s .play); samples = s .samples }
 
 abbrev pub lastOf : Sounding → Bool
 lastOf s = s .play .«nibble_idx» =? 15
@@ -177,8 +177,8 @@ lastOf s = s .play .«nibble_idx» =? 15
 -- one sample taken, and the block change after the sixteenth
 unfoldable pub takeOne : List ℕ → ℕ → ℕ → Sounding → Sounding
 takeOne ram dir srcn s =
-    if lastOf s then nextBlock ram dir srcn (heardNext s) else
-    heardNext s
+    if lastOf s then nextBlock ram dir srcn (pushedNext s) else
+    pushedNext s
 
 -- n samples; after a block change with key_on clear the further ones are dropped
 unfoldable pub consume : List ℕ → ℕ → ℕ → ℕ → Sounding → Sounding

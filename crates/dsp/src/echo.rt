@@ -8,8 +8,8 @@ ghost use Rattle.dsp.specs.Sheet.{pairBytes};
 ghost use Rattle.dsp.specs.Echo.{echoBase, echoRead, echoStored, echoWritten, lengthNow, pointerNext, echoMoved, Echo, echoTick, echoFrom, EchoLane, echoLane};
 use crate::brr::ram_read8;
 use crate::mix::Stereo;
-use crate::mix::bit;
 use crate::registers::Glob;
+use numbers::bit;
 
 // The echo's numbers and its two histories.
 pub struct Echoed {

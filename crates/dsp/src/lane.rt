@@ -10,7 +10,7 @@ ghost use Rattle.dsp.specs.Fit.{FitVoice};
 ghost use Rattle.dsp.specs.Voice.{FitPlay};
 ghost use Rattle.numbers.specs.Choice.{if_then_else_};
 ghost use Rattle.dsp.specs.Sheet.{laneBytes};
-ghost use Rattle.dsp.specs.Lane.{playOf, settingsOf, voiceOf, polledOf, waitedOf, Cell, cellAfter, ownCell, shownCell, keyedOff, keyedOn, delayOf, Waiting, waited, noised, sourceOf, withBit, putBytes, newAcc, added, Landed, turned};
+ghost use Rattle.dsp.specs.Lane.{playOf, settingsOf, voiceOf, polledOf, waitedOf, Cell, cellAfter, ownCell, shownCell, keyedOff, keyedOn, delayOf, Waiting, waited, noised, sourceOf, putBytes, newAcc, added, Landed, turned};
 use crate::adsr::Adsr;
 use crate::adsr::Envelope;
 use crate::adsr::EnvelopePhase;
@@ -18,12 +18,13 @@ use crate::adsr::Settings;
 use crate::adsr::is_off;
 use crate::brr::Brr;
 use crate::mix::Stereo;
-use crate::mix::bit;
 use crate::mix::scaled_output;
 use crate::play::Play;
 use crate::play::Shown;
 use crate::play::Source;
 use crate::voice::Voice;
+use numbers::bit;
+use numbers::with_bit;
 
 // What all voices see in a tick. koff and kon are 0 on a tick without a poll.
 pub struct Shared {
@@ -290,15 +291,6 @@ fn source_of(pmon: u8, j: usize, prev: i16) -> Source
     }
 }
 
-// A byte with bit n as given.
-pub(crate) fn with_bit(x: u8, n: usize, on: bool) -> u8
-    requires { ⌜ n < 8 ⌝ }
-    ensures { λ r. ⌜ r ≡ withBit x n on ⌝ }
-{
-    let mask: u8 = 1 << n;
-    if on { x | mask } else { x & (255 - mask) }
-}
-
 // ENVX, OUTX (the top byte of the output) and the ENDX bit of voice j.
 fn put_bytes(bytes: &mut [u8], j: usize, envx: u8, out: i16, endx: bool)
     requires { ⌜ (length (now bytes) ≡ 128) × (j < 8) ⌝ }
@@ -327,10 +319,10 @@ impl Acc {
         ensures { λ r. ⌜ r ≡ added echo out left right self ⌝ }
     {
         let d = self.dry;
-        let dry = d.heard(out, left, right);
+        let dry = d.with_voice(out, left, right);
         let i = self.input;
         if echo {
-            let input = i.heard(out, left, right);
+            let input = i.with_voice(out, left, right);
             Self {
                 prev: sound::even(out),
                 dry,

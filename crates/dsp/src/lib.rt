@@ -18,5 +18,6 @@ pub use mix::Sample;
 pub use registers::Answer;
 pub use registers::Dsp;
 pub use sound::decode_brr_nibble;
+pub use tick::RAM_SIZE;
 pub use tick::Work;
 pub use voice::Voice;

@@ -1,12 +1,13 @@
 // Outputs and sums: what a voice gives, the dry sum, and the stereo sample.
 ghost use mathlib.Core.Path.{_≡_};
-ghost use Prim.Native.Nat.{_<_, _≤_};
-ghost use Rattle.dsp.specs.Mix.{bit, scaledOutput, heard, dryOf, masterOf, Levels, Rendered, renderOf};
+ghost use Prim.Native.Nat.{_≤_};
+ghost use Rattle.dsp.specs.Mix.{scaledOutput, withVoice, dryOf, masterOf, Levels, Rendered, renderOf};
 use crate::adsr::EnvelopePhase;
 use crate::adsr::is_off;
 use crate::registers::Dsp;
 use crate::registers::Glob;
 use crate::voice::Voice;
+use numbers::bit;
 
 pub struct Stereo {
     pub l: i16,
@@ -18,13 +19,6 @@ pub struct Sample {
     pub refusal: u8,
     pub left: i16,
     pub right: i16,
-}
-
-pub(crate) fn bit(x: u8, n: usize) -> bool
-    requires { ⌜ n < 8 ⌝ }
-    ensures { λ r. ⌜ r ≡ bit x n ⌝ }
-{
-    (x >> n) % 2 == 1
 }
 
 // Post-envelope output before volume. A level of at most $800 keeps it to 16 bits.
@@ -41,8 +35,8 @@ pub(crate) fn scaled_output(phase: EnvelopePhase, level: u16, sample: i16) -> i1
 
 impl Stereo {
     // An output by a voice's volumes, added to both sums, which saturate.
-    pub(crate) fn heard(self, out: i16, left: i8, right: i8) -> Self
-        ensures { λ r. ⌜ r ≡ heard out left right self ⌝ }
+    pub(crate) fn with_voice(self, out: i16, left: i8, right: i8) -> Self
+        ensures { λ r. ⌜ r ≡ withVoice out left right self ⌝ }
     {
         Stereo {
             l: sound::summed(self.l, out, left),
@@ -63,7 +57,7 @@ pub(crate) fn dry(voices: [Voice; 8]) -> Stereo
         let a = v.adsr;
         let phase = a.envelope_phase;
         let out = scaled_output(phase, a.envelope_level, v.current_sample);
-        s = s.heard(out, v.left_vol, v.right_vol);
+        s = s.with_voice(out, v.left_vol, v.right_vol);
         n += 1;
     }
     s

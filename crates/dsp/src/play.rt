@@ -6,7 +6,7 @@ ghost use lib.ListN.{length};
 ghost use Rattle.sound.specs.Clock.{periods};
 ghost use Rattle.sound.specs.Gauss.{weights};
 ghost use Rattle.dsp.specs.Envelope.{FitSettings};
-ghost use Rattle.dsp.specs.Voice.{FitPlay, FitBlock, Sounding, Stepped, pitchOf, positionOf, muted, filled, placed, decodedAt, nextAddress, nextBlock, resolved, heard, takeOne, consume, idle, advanced, interpolated, voiceStep};
+ghost use Rattle.dsp.specs.Voice.{FitPlay, FitBlock, Sounding, Stepped, pitchOf, positionOf, muted, filled, placed, decodedAt, nextAddress, nextBlock, resolved, pushed, takeOne, consume, idle, advanced, interpolated, voiceStep};
 use crate::adsr::Envelope;
 use crate::adsr::EnvelopePhase;
 use crate::adsr::Settings;
@@ -145,9 +145,9 @@ impl Play {
     }
 
     // The next sample goes into the history, oldest first.
-    fn heard(mut self, x: i16) -> Self
+    fn push_history(mut self, x: i16) -> Self
         requires { ⌜ self .«nibble_idx» ≤ 15 ⌝ }
-        ensures { λ r. ⌜ r ≡ heard x self ⌝ }
+        ensures { λ r. ⌜ r ≡ pushed x self ⌝ }
     {
         let h = self.history;
         self.history = [h[1], h[2], h[3], x];
@@ -161,7 +161,7 @@ impl Play {
         ensures { λ r. ⌜ _≡_ {A = Sounding} (record { play = r; samples = now (samples .exit) }) (takeOne (now (ram .entry)) dir srcn (record { play = self; samples = now (samples .entry) })) ⌝ }
     {
         let k = self.nibble_idx as usize;
-        let p = self.heard(samples[k]);
+        let p = self.push_history(samples[k]);
         if self.nibble_idx == 15 {
             p.next_block(ram, samples, dir, srcn)
         } else {

@@ -60,7 +60,7 @@ pub struct Glob {
     pub echo_out_r: i16,
 }
 
-// What a register write answers: 0 or the refusal, and the record.
+// What `write_reg`, `step` and `ticks` answer: 0 or the refusal, and the record, which a refused call hands back as it was given.
 pub struct Answer {
     pub refusal: u8,
     pub dsp: Dsp,

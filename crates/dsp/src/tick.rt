@@ -14,16 +14,16 @@ use crate::echo::put_pair;
 use crate::lane::Acc;
 use crate::lane::Shared;
 use crate::lane::lane;
-use crate::mix::bit;
 use crate::noise::Noise;
 use crate::registers::Answer;
 use crate::registers::Dsp;
 use crate::registers::Glob;
 use crate::voice::Voice;
+use numbers::bit;
 use sound::gauss_table;
 use sound::rate_table;
 
-const RAM_SIZE: usize = 0x10000;
+pub const RAM_SIZE: usize = 0x10000;
 
 // Which lanes of the sheet a tick works: voices by their bits, and the echo. It shows the others as the sheet has them.
 pub struct Work {

@@ -3,7 +3,8 @@
 // - lengths: "1: RAM slice isn't 65,536 bytes", before "2: a given record is unfit";
 // - limits: "A fit record: ..", each clause at its limit and one past it;
 // - runs: "Order: 1, 2, 3, then 4 to 9 at the first place in the log, .. 10", in `run` and `run_new`;
-// - all three: "A refusal answers its number, the record given .. and zeros elsewhere; RAM, sheet and outputs keep
+// - staged: the same in `run_part`, "the whole log is checked before the first tick";
+// - all four: "A refusal answers its number, the record given .. and zeros elsewhere; RAM, sheet and outputs keep
 //   their bytes";
 // - bytes, turned, readings: "Where a field and its register byte differ in a given record, a poll's KOFF, a loop
 //   jump's DIR and SRCN and `read_reg` use the bytes, all else the fields".
@@ -16,6 +17,7 @@ mod parts;
 mod readings;
 mod runs;
 mod same;
+mod staged;
 mod turned;
 
 fn main() {
@@ -24,5 +26,6 @@ fn main() {
     bytes::all();
     turned::all();
     runs::all();
+    staged::all();
     readings::all();
 }

@@ -13,7 +13,7 @@ use Rattle.log.specs.declared.Record.{Record}
 use Rattle.log.specs.declared.Record.the-variants.{Write, Ticks, Reading}
 use Rattle.log.specs.declared.Next.{Next}
 use Rattle.log.specs.declared.Next.the-variants.{On, Off}
-use Rattle.log.specs.Log.{byteOf, writeAt, ticksAt, readingAt, byMark, readAt, Moves, Decoded, before, decodeFrom, recordsFrom}
+use Rattle.log.specs.Log.{byteIn, writeRecord, ticksRecord, readingRecord, byMark, readAt, Moves, Decoded, before, decodeFrom, recordsFrom}
 
 -- ---- as many bytes as are left from a place on
 
@@ -38,23 +38,23 @@ module _ (log : List ℕ) (at : ℕ) where
   abbrev Ok : Next → Type 0
   Ok n = Moves at (length log) n
 
-  write-moves : Ok (writeAt log at)
-  unfolding writeAt
+  write-moves : Ok (writeRecord log at)
+  unfolding writeRecord
   write-moves =
-      tested Ok (length log <? at + 4) (λ _. tt) (λ l. tested Ok (0x7F <? byteOf log (at + 2)) (λ _. tt) (λ k.
-      let a = ltb-false (length log) (at + 4) l in let b = ltb-false 0x7F (byteOf log (at + 2)) k in (omega arith, omega (arith, a), omega (arith, b))))
+      tested Ok (length log <? at + 4) (λ _. tt) (λ l. tested Ok (0x7F <? byteIn log (at + 2)) (λ _. tt) (λ k.
+      let a = ltb-false (length log) (at + 4) l in let b = ltb-false 0x7F (byteIn log (at + 2)) k in (omega arith, omega (arith, a), omega (arith, b))))
 
-  ticks-moves : Ok (ticksAt log at)
-  unfolding ticksAt
+  ticks-moves : Ok (ticksRecord log at)
+  unfolding ticksRecord
   ticks-moves =
-      tested Ok (length log <? at + 4) (λ _. tt) (λ l. tested Ok (byteOf log (at + 2) + 0x100 * byteOf log (at + 3) =? 0) (λ _. tt) (λ k.
+      tested Ok (length log <? at + 4) (λ _. tt) (λ l. tested Ok (byteIn log (at + 2) + 0x100 * byteIn log (at + 3) =? 0) (λ _. tt) (λ k.
       let a = ltb-false (length log) (at + 4) l in (omega arith, omega (arith, a), tt)))
 
-  reading-moves : Ok (readingAt log at)
-  unfolding readingAt
+  reading-moves : Ok (readingRecord log at)
+  unfolding readingRecord
   reading-moves =
-      tested Ok (length log <? at + 3) (λ _. tt) (λ l. tested Ok (0x7F <? byteOf log (at + 2)) (λ _. tt) (λ k.
-      let a = ltb-false (length log) (at + 3) l in let b = ltb-false 0x7F (byteOf log (at + 2)) k in (omega arith, omega (arith, a), omega (arith, b))))
+      tested Ok (length log <? at + 3) (λ _. tt) (λ l. tested Ok (0x7F <? byteIn log (at + 2)) (λ _. tt) (λ k.
+      let a = ltb-false (length log) (at + 3) l in let b = ltb-false 0x7F (byteIn log (at + 2)) k in (omega arith, omega (arith, a), omega (arith, b))))
 
   mark-moves : (mark : ℕ) → Ok (byMark log at mark)
   unfolding byMark
@@ -65,7 +65,7 @@ module _ (log : List ℕ) (at : ℕ) where
   pub moves : Ok (readAt log at)
   unfolding readAt
   moves =
-      tested Ok (length log ≤? at) (λ _. tt) (λ _. tested Ok (length log <? at + 2) (λ _. tt) (λ _. mark-moves (byteOf log (at + 1) + 0x100 * byteOf log at)))
+      tested Ok (length log ≤? at) (λ _. tt) (λ _. tested Ok (length log <? at + 2) (λ _. tt) (λ _. mark-moves (byteIn log (at + 1) + 0x100 * byteIn log at)))
 
 -- a written value is a byte of the log
 abbrev pub ByteValue : Next → Type 0
@@ -75,17 +75,17 @@ ByteValue (On (Reading r) behind) = Unit {0}
 ByteValue (Off k) = Unit {0}
 
 pub byte-value : (log : List ℕ) (at : ℕ) → ((i : ℕ) → getD log i 0 < 256) → ByteValue (readAt log at)
-unfolding readAt byMark writeAt ticksAt readingAt
+unfolding readAt byMark writeRecord ticksRecord readingRecord
 byte-value log at h =
     let size = length log in
-    let mark = byteOf log (at + 1) + 0x100 * byteOf log at in
+    let mark = byteIn log (at + 1) + 0x100 * byteIn log at in
     tested ByteValue (size ≤? at) (λ _. tt) (λ _. tested ByteValue (size <? at + 2) (λ _. tt) (λ _.
     tested ByteValue (mark =? 0x5257)
-    (λ _. tested ByteValue (size <? at + 4) (λ _. tt) (λ _. tested ByteValue (0x7F <? byteOf log (at + 2)) (λ _. tt) (λ _. h (at + 3))))
+    (λ _. tested ByteValue (size <? at + 4) (λ _. tt) (λ _. tested ByteValue (0x7F <? byteIn log (at + 2)) (λ _. tt) (λ _. h (at + 3))))
     (λ _. tested ByteValue (mark =? 0x544B)
-    (λ _. tested ByteValue (size <? at + 4) (λ _. tt) (λ _. tested ByteValue (byteOf log (at + 2) + 0x100 * byteOf log (at + 3) =? 0) (λ _. tt) (λ _. tt)))
+    (λ _. tested ByteValue (size <? at + 4) (λ _. tt) (λ _. tested ByteValue (byteIn log (at + 2) + 0x100 * byteIn log (at + 3) =? 0) (λ _. tt) (λ _. tt)))
     (λ _. tested ByteValue (mark =? 0x5141)
-    (λ _. tested ByteValue (size <? at + 3) (λ _. tt) (λ _. tested ByteValue (0x7F <? byteOf log (at + 2)) (λ _. tt) (λ _. tt)))
+    (λ _. tested ByteValue (size <? at + 3) (λ _. tt) (λ _. tested ByteValue (0x7F <? byteIn log (at + 2)) (λ _. tt) (λ _. tt)))
     (λ _. tested ByteValue (mark =? 0x4E44) (λ _. tested ByteValue (size =? at + 2) (λ _. tt) (λ _. tt)) (λ _. tt))))))
 
 -- past the end nothing stands

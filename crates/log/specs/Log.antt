@@ -9,37 +9,37 @@ use Rattle.log.specs.declared.Next.{Next}
 use Rattle.log.specs.declared.Next.the-variants.{On, Off}
 
 -- byte i of a log
-abbrev pub byteOf : List ℕ → ℕ → ℕ
-byteOf log i = getD log i 0
+abbrev pub byteIn : List ℕ → ℕ → ℕ
+byteIn log i = getD log i 0
 
 -- "RW (52 57), register, value": 5 if it is not whole, 6 if the register is above $7F
-unfoldable pub writeAt : List ℕ → ℕ → Next
-writeAt log at =
+unfoldable pub writeRecord : List ℕ → ℕ → Next
+writeRecord log at =
     if length log <? at + 4 then Off 5 else
-    if 0x7F <? byteOf log (at + 2) then Off 6 else
-    On (Write (byteOf log (at + 2)) (byteOf log (at + 3))) (at + 4)
+    if 0x7F <? byteIn log (at + 2) then Off 6 else
+    On (Write (byteIn log (at + 2)) (byteIn log (at + 3))) (at + 4)
 
 -- "TK (54 4B), count, 16 bits, low byte first": 7 if it is 0
-unfoldable pub ticksAt : List ℕ → ℕ → Next
-ticksAt log at =
+unfoldable pub ticksRecord : List ℕ → ℕ → Next
+ticksRecord log at =
     if length log <? at + 4 then Off 5 else
-    if byteOf log (at + 2) + 0x100 * byteOf log (at + 3) =? 0 then Off 7 else
-    On (Ticks (byteOf log (at + 2) + 0x100 * byteOf log (at + 3))) (at + 4)
+    if byteIn log (at + 2) + 0x100 * byteIn log (at + 3) =? 0 then Off 7 else
+    On (Ticks (byteIn log (at + 2) + 0x100 * byteIn log (at + 3))) (at + 4)
 
 -- "QA (51 41), register: one reading"
-unfoldable pub readingAt : List ℕ → ℕ → Next
-readingAt log at =
+unfoldable pub readingRecord : List ℕ → ℕ → Next
+readingRecord log at =
     if length log <? at + 3 then Off 5 else
-    if 0x7F <? byteOf log (at + 2) then Off 6 else
-    On (Reading (byteOf log (at + 2))) (at + 3)
+    if 0x7F <? byteIn log (at + 2) then Off 6 else
+    On (Reading (byteIn log (at + 2))) (at + 3)
 
 -- by the mark, its first byte as the high one; "ND (4E 44): end", and 9 with bytes behind it; any other mark is 4
 unfoldable pub byMark : List ℕ → ℕ → ℕ → Next
-unfolding writeAt ticksAt readingAt
+unfolding writeRecord ticksRecord readingRecord
 byMark log at mark =
-    if mark =? 0x5257 then writeAt log at else
-    if mark =? 0x544B then ticksAt log at else
-    if mark =? 0x5141 then readingAt log at else
+    if mark =? 0x5257 then writeRecord log at else
+    if mark =? 0x544B then ticksRecord log at else
+    if mark =? 0x5141 then readingRecord log at else
     if mark =? 0x4E44 then (if length log =? at + 2 then Off 0 else Off 9) else
     Off 4
 
@@ -49,7 +49,7 @@ unfolding byMark
 readAt log at =
     if length log ≤? at then Off 8 else
     if length log <? at + 2 then Off 5 else
-    byMark log at (byteOf log (at + 1) + 0x100 * byteOf log at)
+    byMark log at (byteIn log (at + 1) + 0x100 * byteIn log at)
 
 -- a register of a record is one of the 128
 abbrev pub Known : Record → Type 0

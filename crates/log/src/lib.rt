@@ -2,10 +2,10 @@
 ghost use mathlib.Core.Path.{_≡_};
 ghost use Prim.Native.Nat.{_+_, _-_, _*_, _<_};
 ghost use lib.ListN.{length};
-ghost use Rattle.log.specs.Log.{writeAt, ticksAt, readingAt, byMark, readAt, Moves};
-ghost use Rattle.log.specs.Measure.{ticksOf, readingsOf, endedAt, refusedBy, measureOf};
+ghost use Rattle.log.specs.Log.{writeRecord, ticksRecord, readingRecord, byMark, readAt, Moves};
+ghost use Rattle.log.specs.Measure.{ticksIn, readingsIn, endedAt, unmeasured, measureOf};
 
-const LOG_MOST: usize = 60000;
+pub const LOG_MOST: usize = 60000;
 
 const TICKS_MOST: u32 = 32000;
 
@@ -41,7 +41,7 @@ pub fn word(low: u8, high: u8) -> u16
 // `RW`, register, value.
 fn write_at(log: &[u8], at: usize, left: usize) -> Next
     requires { ⌜ (left ≡ length (now log) - at) × (at < length (now log)) ⌝ }
-    ensures { λ r. ⌜ (r ≡ writeAt (now (log .entry)) at) × Moves at (length (now (log .entry))) r ⌝ }
+    ensures { λ r. ⌜ (r ≡ writeRecord (now (log .entry)) at) × Moves at (length (now (log .entry))) r ⌝ }
 {
     if left < 4 {
         return Next::Off(5);
@@ -60,7 +60,7 @@ fn write_at(log: &[u8], at: usize, left: usize) -> Next
 // `TK`, count, 16 bits, low byte first.
 fn ticks_at(log: &[u8], at: usize, left: usize) -> Next
     requires { ⌜ (left ≡ length (now log) - at) × (at < length (now log)) ⌝ }
-    ensures { λ r. ⌜ (r ≡ ticksAt (now (log .entry)) at) × Moves at (length (now (log .entry))) r ⌝ }
+    ensures { λ r. ⌜ (r ≡ ticksRecord (now (log .entry)) at) × Moves at (length (now (log .entry))) r ⌝ }
 {
     if left < 4 {
         return Next::Off(5);
@@ -78,7 +78,7 @@ fn ticks_at(log: &[u8], at: usize, left: usize) -> Next
 // `QA`, register.
 fn reading_at(log: &[u8], at: usize, left: usize) -> Next
     requires { ⌜ (left ≡ length (now log) - at) × (at < length (now log)) ⌝ }
-    ensures { λ r. ⌜ (r ≡ readingAt (now (log .entry)) at) × Moves at (length (now (log .entry))) r ⌝ }
+    ensures { λ r. ⌜ (r ≡ readingRecord (now (log .entry)) at) × Moves at (length (now (log .entry))) r ⌝ }
 {
     if left < 3 {
         return Next::Off(5);
@@ -130,7 +130,7 @@ pub fn read(log: &[u8], at: usize) -> Next
 }
 
 fn ticks_of(found: Record) -> u32
-    ensures { λ r. ⌜ (r ≡ ticksOf found) × (r < 0x10000) ⌝ }
+    ensures { λ r. ⌜ (r ≡ ticksIn found) × (r < 0x10000) ⌝ }
 {
     match found {
         Record::Write {
@@ -143,7 +143,7 @@ fn ticks_of(found: Record) -> u32
 }
 
 fn readings_of(found: Record) -> u32
-    ensures { λ r. ⌜ (r ≡ readingsOf found) × (r < 2) ⌝ }
+    ensures { λ r. ⌜ (r ≡ readingsIn found) × (r < 2) ⌝ }
 {
     match found {
         Record::Write {
@@ -156,7 +156,7 @@ fn readings_of(found: Record) -> u32
 }
 
 fn refused(refusal: u8) -> Measured
-    ensures { λ r. ⌜ r ≡ refusedBy refusal ⌝ }
+    ensures { λ r. ⌜ r ≡ unmeasured refusal ⌝ }
 {
     Measured {
         refusal,

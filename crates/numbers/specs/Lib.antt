@@ -1,4 +1,6 @@
+pub mod Bits
 pub mod Bytes
 pub mod Choice
+pub mod Listed
 pub mod Signed
 pub mod Unsigned

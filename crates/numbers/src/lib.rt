@@ -1,8 +1,9 @@
 // The numbers of the chip: clamps, cuts and bytes of signed numbers, the halves
-// of a u16, and sums and differences that wrap or stop at an end. And a copy of bytes.
+// of a u16, the bits of a byte, and sums and differences that wrap or stop at an end. And a copy of bytes.
 ghost use mathlib.Core.Path.{_≡_};
 ghost use lib.IntN.{pos};
-ghost use Prim.Native.Nat.{_+_, _-_};
+ghost use Prim.Native.Nat.{_+_, _-_, _%_};
+ghost use Rattle.numbers.specs.Bits.{bit, withBit};
 ghost use Rattle.numbers.specs.Bytes.{copied};
 ghost use Rattle.numbers.specs.Signed.{clamp16Z, cutZ, lowZ, highZ};
 ghost use Rattle.numbers.specs.Unsigned.{withLow, withHigh, wrapped, least};
@@ -67,6 +68,21 @@ pub fn with_high(x: u16, hi: u8) -> u16
     ensures { λ r. ⌜ r ≡ withHigh x hi ⌝ }
 {
     hi as u16 * 256 + x % 256
+}
+
+// Bit n of a byte, n modulo 8.
+pub fn bit(x: u8, n: usize) -> bool
+    ensures { λ r. ⌜ r ≡ bit x (n % 8) ⌝ }
+{
+    (x >> (n % 8)) % 2 == 1
+}
+
+// A byte with bit n as given, n modulo 8.
+pub fn with_bit(x: u8, n: usize, on: bool) -> u8
+    ensures { λ r. ⌜ r ≡ withBit x (n % 8) on ⌝ }
+{
+    let mask: u8 = 1 << (n % 8);
+    if on { x | mask } else { x & (255 - mask) }
 }
 
 // The sum of two 16-bit addresses, modulo 65,536.

@@ -1,6 +1,5 @@
 // The file of pairs: the number of a RAM image, the mask of the named voices, what is lent, which records are unfit; then five
 // logs, each behind its length: both preludes, the old log, the new one, the tail.
-ghost use Prim.Native.Nat.{_<_};
 use crate::redone::Asked;
 use crate::redone::redo;
 use crate::redone::spoiled;
@@ -65,9 +64,7 @@ fn stops() -> bool {
     false
 }
 
-fn with_preludes(fd: i32, asked: Asked) -> bool
-    requires { ⌜ asked .ram < 10 ⌝ }
-{
+fn with_preludes(fd: i32, asked: Asked) -> bool {
     let p = run_next(fd, asked.ram, true, false, Dsp::new());
     let q = run_next(fd, asked.ram, true, false, Dsp::new());
     if p.stops | q.stops {
@@ -79,9 +76,7 @@ fn with_preludes(fd: i32, asked: Asked) -> bool
     with_old(fd, asked, of_new, from, start)
 }
 
-fn with_old(fd: i32, asked: Asked, of_new: bool, from: Dsp, start: Dsp) -> bool
-    requires { ⌜ asked .ram < 10 ⌝ }
-{
+fn with_old(fd: i32, asked: Asked, of_new: bool, from: Dsp, start: Dsp) -> bool {
     let mut log = io::large_buffer();
     let found = stored_log(fd, &mut log);
     if found.failed {
@@ -91,9 +86,7 @@ fn with_old(fd: i32, asked: Asked, of_new: bool, from: Dsp, start: Dsp) -> bool
     with_new(fd, asked, of_new, from, start, &log[..n])
 }
 
-fn with_new(fd: i32, asked: Asked, of_new: bool, from: Dsp, start: Dsp, old: &[u8]) -> bool
-    requires { ⌜ asked .ram < 10 ⌝ }
-{
+fn with_new(fd: i32, asked: Asked, of_new: bool, from: Dsp, start: Dsp, old: &[u8]) -> bool {
     let mut log = io::large_buffer();
     let found = stored_log(fd, &mut log);
     if found.failed {
@@ -108,9 +101,7 @@ fn with_new(fd: i32, asked: Asked, of_new: bool, from: Dsp, start: Dsp, old: &[u
 }
 
 // From the record that the rework gave back.
-fn with_tail(fd: i32, ram: u8, back: Dsp) -> bool
-    requires { ⌜ ram < 10 ⌝ }
-{
+fn with_tail(fd: i32, ram: u8, back: Dsp) -> bool {
     say(b"TAIL\n");
     let t = run_next(fd, ram, false, true, back);
     if t.stops {
@@ -120,9 +111,7 @@ fn with_tail(fd: i32, ram: u8, back: Dsp) -> bool
 }
 
 // The next log of the file, from `new` or from a record, told or not, on the image.
-fn run_next(fd: i32, ram: u8, of_new: bool, told: bool, start: Dsp) -> Back
-    requires { ⌜ ram < 10 ⌝ }
-{
+fn run_next(fd: i32, ram: u8, of_new: bool, told: bool, start: Dsp) -> Back {
     let mut log = io::large_buffer();
     let found = stored_log(fd, &mut log);
     if found.failed {
@@ -141,9 +130,7 @@ fn run_next(fd: i32, ram: u8, of_new: bool, told: bool, start: Dsp) -> Back
     }
 }
 
-fn run_log(number: u8, of_new: bool, told: bool, start: Dsp, log: &[u8]) -> Dsp
-    requires { ⌜ number < 10 ⌝ }
-{
+fn run_log(number: u8, of_new: bool, told: bool, start: Dsp, log: &[u8]) -> Dsp {
     let mut ram = [0u8; 65537];
     let n = image(number, &mut ram);
     let w = run_whole(of_new, told, start, log, &mut ram[..n]);

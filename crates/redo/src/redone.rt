@@ -42,9 +42,7 @@ pub fn spoiled(dsp: Dsp, unfit: bool) -> Dsp {
 
 // The record that the rework gives back. The first run has a RAM of its own. `of_new`: both sittings start from `new`, so that
 // `rework_new` has to give the same.
-pub fn redo(asked: Asked, of_new: bool, from: Dsp, start: Dsp, old: &[u8], new: &[u8]) -> Dsp
-    requires { ⌜ asked .ram < 10 ⌝ }
-{
+pub fn redo(asked: Asked, of_new: bool, from: Dsp, start: Dsp, old: &[u8], new: &[u8]) -> Dsp {
     let mut ram = [0u8; 65537];
     let n = image(asked.ram, &mut ram);
     let mut own = ram;
@@ -141,8 +139,8 @@ fn redo_on(
         ram,
         old,
         new,
-        sheet,
         pcm,
+        sheet,
         readings,
     )
 }
@@ -169,8 +167,8 @@ fn reworked(
     ram: &[u8],
     old: &[u8],
     new: &[u8],
-    sheet: &mut [u8],
     pcm: &mut [u8],
+    sheet: &mut [u8],
     readings: &mut [u8],
 ) -> Dsp {
     let m = measure(new);
@@ -189,14 +187,14 @@ fn reworked(
         ram,
         old,
         new,
-        &mut sheet[..n.sheet],
         &mut pcm[..n.pcm],
+        &mut sheet[..n.sheet],
         &mut readings[..n.readings],
     )
 }
 
-fn held(sheet: &[u8], pcm: &[u8], readings: &[u8]) -> u64 {
-    with_bytes(with_bytes(with_bytes(EMPTY, sheet), pcm), readings)
+fn held(pcm: &[u8], sheet: &[u8], readings: &[u8]) -> u64 {
+    with_bytes(with_bytes(with_bytes(EMPTY, pcm), sheet), readings)
 }
 
 fn rework_on(
@@ -207,19 +205,19 @@ fn rework_on(
     ram: &[u8],
     old: &[u8],
     new: &[u8],
-    sheet: &mut [u8],
     pcm: &mut [u8],
+    sheet: &mut [u8],
     readings: &mut [u8],
 ) -> Dsp {
-    let before = held(sheet, pcm, readings);
-    let w = rework(named, start, end, ram, old, new, sheet, pcm, readings);
+    let before = held(pcm, sheet, readings);
+    let w = rework(named, start, end, ram, old, new, pcm, sheet, readings);
     if w.refusal == 0 {
-        tell_reworked(w, ram, new, sheet, pcm, readings);
+        tell_reworked(w, ram, new, pcm, sheet, readings);
     } else {
         lines::refused(w.refusal);
-        differs((w.members != 0) | (w.count != 0) | (before != held(sheet, pcm, readings)));
+        differs((w.members != 0) | (w.count != 0) | (before != held(pcm, sheet, readings)));
     }
-    of_new_too(of_new, w, named, ram, old, new, sheet, pcm, readings)
+    of_new_too(of_new, w, named, ram, old, new, pcm, sheet, readings)
 }
 
 fn differs(so: bool) {
@@ -235,15 +233,15 @@ fn of_new_too(
     ram: &[u8],
     old: &[u8],
     new: &[u8],
-    sheet: &mut [u8],
     pcm: &mut [u8],
+    sheet: &mut [u8],
     readings: &mut [u8],
 ) -> Dsp {
     let d = w.dsp;
     if of_new {
-        let after = held(sheet, pcm, readings);
-        let v = rework_new(named, ram, old, new, sheet, pcm, readings);
-        differs(!same(w, v) | (after != held(sheet, pcm, readings)));
+        let after = held(pcm, sheet, readings);
+        let v = rework_new(named, ram, old, new, pcm, sheet, readings);
+        differs(!same(w, v) | (after != held(pcm, sheet, readings)));
     }
     d
 }
@@ -257,7 +255,7 @@ fn same(w: Reworked, v: Reworked) -> bool {
         & (with_registers(EMPTY, d) == with_registers(EMPTY, e))
 }
 
-fn tell_reworked(w: Reworked, ram: &[u8], new: &[u8], sheet: &[u8], pcm: &[u8], readings: &[u8]) {
+fn tell_reworked(w: Reworked, ram: &[u8], new: &[u8], pcm: &[u8], sheet: &[u8], readings: &[u8]) {
     lines::say(b"VOICES ");
     lines::hex(w.members);
     lines::numbered(b" ", w.count as u64);

@@ -1,7 +1,9 @@
 // The program `remark`: must a sitting be marked again after a change of named voices? RAM from ram.bin, the named voices from
 // named.bin (a mask of one byte), the old log from old.bin, the new one on standard input; the answer, in words, on standard output.
 // What cannot be read or written is named on standard error.
+mod answer;
 mod marking;
+mod telling;
 mod words;
 
 use report::input;
@@ -51,7 +53,7 @@ fn with_old(ram: &[u8], own: &mut [u8], named: u8, old: &[u8]) {
         return;
     }
     let n = took.size;
-    told(marking::marked(ram, own, named, old, &new[..n]));
+    told(telling::told(named, ram, own, old, &new[..n]));
 }
 
 // Whether all lines went out.

@@ -1,153 +1,85 @@
-// The old log played from power-on and reworked to the new one, and both logs' readings side by side.
-ghost use Prim.Native.Nat.{_≤_, _<_};
-use crate::words;
-use dsp::Dsp;
-use log::measure;
+// The readings of two sittings side by side: how many are as before, which have changed, and whether anything has to be marked again.
+ghost use mathlib.Core.Path.{_≡_};
+ghost use Prim.Native.Nat.{_≤_};
+ghost use lib.ListN.{length};
+ghost use Rattle.numbers.specs.Bytes.{copied};
+ghost use Rattle.numbers.specs.Unsigned.{least as leastOf};
+ghost use Rattle.remark.specs.Marking.{same as sameOf, changed as changedOf, verdictOf, kept as keptOf, sameAt, greatest as greatestOf};
 use report::runs::least;
-use report::runs::registers_read;
-use report::runs::room_for;
-use report::runs::run_cut;
-use rework::Reworked;
-use rework::rework;
 
-// How many readings are as before, and whether all lines went out.
-struct Told {
-    same: u64,
-    out: bool,
+pub enum Verdict {
+    Nothing,
+    Changed,
 }
 
-// Room for any log: 32,000 ticks with 4 bytes of PCM and 36 of sheet each, 20,000 readings with 3 bytes of the log each. The old
-// log has a RAM of its own.
-pub fn marked(ram: &[u8], own: &mut [u8], named: u8, old: &[u8], new: &[u8]) -> bool {
-    let mut pcm = [0; 128000];
-    let mut sheet = [0; 1152000];
-    let mut before = [0; 20000];
-    let mut after = [0; 20000];
-    marked_in(
-        ram,
-        own,
-        named,
-        old,
-        new,
-        &mut pcm,
-        &mut sheet,
-        &mut before,
-        &mut after,
-    )
+fn greatest(a: usize, b: usize) -> usize
+    ensures { λ r. ⌜ r ≡ greatestOf a b ⌝ }
+{
+    if a <= b { b } else { a }
 }
 
-// Behind a reference an array's length is its type's, and no check has to count a million bytes.
-fn marked_in(
-    ram: &[u8],
-    own: &mut [u8],
-    named: u8,
-    old: &[u8],
-    new: &[u8],
-    pcm: &mut [u8; 128000],
-    sheet: &mut [u8; 1152000],
-    before: &mut [u8; 20000],
-    after: &mut [u8; 20000],
-) -> bool {
-    marked_on(ram, own, named, old, new, pcm, sheet, before, after)
+// 1 for a reading that has the value that it had.
+fn kept(was: u8, is: u8) -> u64
+    ensures { λ r. ⌜ (r ≡ keptOf was is) × (r ≤ 1) ⌝ }
+{
+    if was == is { 1 } else { 0 }
 }
 
-fn marked_on(
-    ram: &[u8],
-    own: &mut [u8],
-    named: u8,
-    old: &[u8],
-    new: &[u8],
-    pcm: &mut [u8],
-    sheet: &mut [u8],
-    before: &mut [u8],
-    after: &mut [u8],
-) -> bool {
-    let r = run_cut(true, Dsp::new(), own, old, pcm, sheet, before);
-    if r.refusal != 0 {
-        return words::refused(r.refusal, true);
-    }
-    let end = r.dsp;
-    remarked(named, end, ram, old, new, pcm, sheet, before, after)
-}
-
-fn remarked(
-    named: u8,
-    end: Dsp,
-    ram: &[u8],
-    old: &[u8],
-    new: &[u8],
-    pcm: &mut [u8],
-    sheet: &mut [u8],
-    before: &[u8],
-    after: &mut [u8],
-) -> bool {
-    let w = rework_cut(named, end, ram, old, new, pcm, sheet, after);
-    if w.refusal != 0 {
-        return words::refused(w.refusal, false);
-    }
-    words::sets(named, w.members, w.count) && tell(new, before, after)
-}
-
-// Lends what the new log needs; were there less, the rework would refuse by 10.
-fn rework_cut(
-    named: u8,
-    end: Dsp,
-    ram: &[u8],
-    old: &[u8],
-    new: &[u8],
-    pcm: &mut [u8],
-    sheet: &mut [u8],
-    readings: &mut [u8],
-) -> Reworked {
-    let m = measure(new);
-    let n = room_for(m.ticks, m.readings).within(pcm.len(), sheet.len(), readings.len());
-    rework(
-        named,
-        Dsp::new(),
-        end,
-        ram,
-        old,
-        new,
-        &mut sheet[..n.sheet],
-        &mut pcm[..n.pcm],
-        &mut readings[..n.readings],
-    )
-}
-
-fn tell(log: &[u8], before: &[u8], after: &[u8]) -> bool {
-    let mut registers = [0u8; 20000];
-    let n = registers_read(log, &mut registers);
-    let told = tell_readings(&registers[..n], before, after);
-    words::verdict(told.same, n as u64) && told.out
-}
-
-fn tell_readings(registers: &[u8], before: &[u8], after: &[u8]) -> Told {
-    let n = least(registers.len(), least(before.len(), after.len()));
-    let mut told = Told { same: 0, out: true };
+// How many are as before.
+pub fn same(before: &[u8], after: &[u8]) -> u64
+    ensures { λ r. ⌜ r ≡ sameOf (now (before .entry)) (now (after .entry)) ⌝ }
+{
+    let n = least(before.len(), after.len());
+    let mut count: u64 = 0;
     let mut i: usize = 0;
     while i < n {
-        told = told.with(i as u64 + 1, registers[i], before[i], after[i]);
+        count += kept(before[i], after[i]);
         i += 1;
     }
-    told
+    count
 }
 
-impl Told {
-    // A line more.
-    fn with(self, running: u64, register: u8, was: u8, is: u8) -> Self
-        requires { ⌜ self .same < running ⌝ }
-        ensures { λ r. ⌜ r .same ≤ running ⌝ }
-    {
-        let out = words::reading(running, register, was, is) & self.out;
-        if was == is {
-            return Told {
-                same: self.same + 1,
-                out,
-            };
-        }
-        Told {
-            same: self.same,
-            out,
-        }
+// A reading that only one of the two has is not as before.
+fn same_at(before: &[u8], after: &[u8], i: usize) -> bool
+    ensures { λ r. ⌜ r ≡ sameAt (now (before .entry)) (now (after .entry)) i ⌝ }
+{
+    if before.len() <= i {
+        return false;
     }
+    if after.len() <= i {
+        return false;
+    }
+    before[i] == after[i]
+}
+
+// The running numbers of those that have changed, from 1, as many as there is room for.
+pub fn changed(before: &[u8], after: &[u8], to: &mut [u64]) -> usize
+    ensures { λ r. ⌜ (r ≡ leastOf (length (changedOf (now (before .entry)) (now (after .entry)))) (length (now (to .entry)))) × (now (to .exit) ≡ copied (changedOf (now (before .entry)) (now (after .entry))) (now (to .entry))) ⌝ }
+{
+    let n = greatest(before.len(), after.len());
+    let mut put: usize = 0;
+    let mut i: usize = 0;
+    while i < n {
+        if put == to.len() {
+            return put;
+        }
+        if !same_at(before, after, i) {
+            to[put] = i as u64 + 1;
+            put += 1;
+        }
+        i += 1;
+    }
+    put
+}
+
+pub fn verdict_of(before: &[u8], after: &[u8]) -> Verdict
+    ensures { λ r. ⌜ r ≡ verdictOf (now (before .entry)) (now (after .entry)) ⌝ }
+{
+    if before.len() != after.len() {
+        return Verdict::Changed;
+    }
+    if same(before, after) == before.len() as u64 {
+        return Verdict::Nothing;
+    }
+    Verdict::Changed
 }

@@ -1,5 +1,6 @@
 // The answer in words. Each answers whether it went out.
 ghost use Prim.Native.Nat.{_<_};
+use crate::marking::Verdict;
 use report::lines;
 use report::lines::number;
 use report::lines::say;
@@ -51,25 +52,27 @@ pub fn sets(named: u8, members: u8, count: u32) -> bool {
         && say(b"\n")
 }
 
-pub fn reading(running: u64, register: u8, was: u8, is: u8) -> bool {
+pub fn reading(running: u64, register: u8, was: u8, is: u8, has_changed: bool) -> bool {
     let out = say(b"Reading ")
         && number(running)
         && say(b", register ")
         && lines::hex(register)
         && say(b": ")
         && lines::hex(is);
-    if was == is {
-        return out && say(b", as before\n");
+    if has_changed {
+        return out && say(b", was ") && lines::hex(was) && say(b"\n");
     }
-    out && say(b", was ") && lines::hex(was) && say(b"\n")
+    out && say(b", as before\n")
 }
 
-pub fn verdict(same: u64, all: u64) -> bool {
+pub fn verdict(same: u64, all: u64, verdict: Verdict) -> bool {
     let out = number(same) && say(b" of ") && number(all) && say(b" readings are as before.\n");
-    if same == all {
-        return out && say(b"Nothing has to be marked again.\n");
+    match verdict {
+        Verdict::Nothing => out && say(b"Nothing has to be marked again.\n"),
+        Verdict::Changed => {
+            out && say(b"Only the readings with 'was' have to be marked again.\n")
+        }
     }
-    out && say(b"Only the readings with 'was' have to be marked again.\n")
 }
 
 // The number, and what it says; of 3 to 9 also of which log.

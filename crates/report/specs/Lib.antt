@@ -1,2 +1,4 @@
 pub mod Digest
 pub mod Hex
+pub mod Input
+pub mod Runs

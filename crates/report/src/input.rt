@@ -1,8 +1,9 @@
 // What a program reads: bytes of a descriptor or a file, and RAM from ram.bin.
 ghost use mathlib.Core.Path.{_≡_};
+ghost use mathlib.Core.Bool.{true};
 ghost use Prim.Native.Nat.{_≤_};
 ghost use lib.ListN.{length};
-ghost use Rattle.io.specs.Counts.{Counts};
+ghost use Rattle.report.specs.Input.{Taken};
 
 // So many bytes at the start of a buffer; and whether a read failed, or the input ended too soon.
 pub struct Took {
@@ -17,7 +18,7 @@ pub enum Loaded {
 }
 
 pub(crate) fn none() -> Took
-    ensures { λ r. ⌜ r .size ≡ 0 ⌝ }
+    ensures { λ r. ⌜ (r .failed ≡ true) × (r .size ≡ 0) ⌝ }
 {
     Took {
         failed: true,
@@ -41,7 +42,7 @@ fn some(fd: i32, buf: &mut [u8]) -> Took
 
 // Reads until the buffer is full or the input ends.
 pub fn fill(fd: i32, buf: &mut [u8]) -> Took
-    ensures { λ r. ⌜ Counts (r .size) (now (buf .exit)) ⌝ }
+    ensures { λ r. ⌜ Taken r (now (buf .exit)) ⌝ }
 {
     let mut done: usize = 0;
     while done < buf.len() {
@@ -65,7 +66,7 @@ pub fn fill(fd: i32, buf: &mut [u8]) -> Took
 
 // The first bytes of a file, at most as many as the buffer has.
 pub fn file(name: &[u8], buf: &mut [u8]) -> Took
-    ensures { λ r. ⌜ Counts (r .size) (now (buf .exit)) ⌝ }
+    ensures { λ r. ⌜ Taken r (now (buf .exit)) ⌝ }
 {
     let fd = os::open_read(name);
     if fd < 0 {
@@ -77,7 +78,9 @@ pub fn file(name: &[u8], buf: &mut [u8]) -> Took
 }
 
 // A missing ram.bin counts as 0 bytes.
-pub fn load(ram: &mut [u8]) -> Loaded {
+pub fn load(ram: &mut [u8]) -> Loaded
+    ensures { λ r. ⌜ length (now (ram .exit)) ≡ length (now (ram .entry)) ⌝ }
+{
     let fd = os::open_read(b"ram.bin");
     if fd < 0 {
         if os::errno() == libc::ENOENT {

@@ -1,4 +1,6 @@
 // What a run leaves, in digests: the two ways to run a log must leave the same.
+ghost use mathlib.Core.Path.{_≡_};
+ghost use Rattle.report.specs.Digest.{leftBy, sameLeft};
 use crate::digest::EMPTY;
 use crate::digest::with_bytes;
 use crate::digest::with_reads;
@@ -13,7 +15,9 @@ pub struct Left {
 }
 
 impl Left {
-    pub fn by(dsp: Dsp, ram: &[u8], pcm: u64, readings: u64) -> Self {
+    pub fn by(dsp: Dsp, ram: &[u8], pcm: u64, readings: u64) -> Self
+        ensures { λ r. ⌜ r ≡ leftBy dsp (now (ram .entry)) pcm readings ⌝ }
+    {
         Left {
             dsp: with_reads(with_registers(EMPTY, dsp), dsp),
             ram: with_bytes(EMPTY, ram),
@@ -22,7 +26,10 @@ impl Left {
         }
     }
 
-    pub fn same(self, other: Left) -> bool {
+    // All four digests.
+    pub fn same(self, other: Left) -> bool
+        ensures { λ r. ⌜ r ≡ sameLeft self other ⌝ }
+    {
         (self.dsp == other.dsp)
             & (self.ram == other.ram)
             & (self.pcm == other.pcm)

@@ -1,7 +1,7 @@
 // The lines: numbers in decimal, bytes in two capital hex digits, digests in sixteen. Each answers whether it went out.
 ghost use mathlib.Core.Path.{_≡_};
 ghost use Prim.Native.Nat.{_<_};
-ghost use Rattle.report.specs.Hex.{capital};
+ghost use Rattle.report.specs.Hex.{capital, inHex};
 use dsp::Dsp;
 use libc::STDERR_FILENO;
 use libc::STDOUT_FILENO;
@@ -30,8 +30,14 @@ fn digit(n: u8) -> u8
     if n < 10 { b'0' + n } else { b'A' - 10 + n }
 }
 
+pub fn hex_of(value: u8) -> [u8; 2]
+    ensures { λ r. ⌜ r ≡ inHex 2 value ⌝ }
+{
+    [digit(value / 16), digit(value % 16)]
+}
+
 pub fn hex(value: u8) -> bool {
-    let text = [digit(value / 16), digit(value % 16)];
+    let text = hex_of(value);
     say(&text)
 }
 
@@ -61,7 +67,9 @@ pub fn registers(dsp: Dsp) -> bool {
     say(b"\n") & out
 }
 
-pub fn digest(words: &[u8], sum: u64) -> bool {
+pub fn digits_of(sum: u64) -> [u8; 16]
+    ensures { λ r. ⌜ r ≡ inHex 16 sum ⌝ }
+{
     let mut text = [0u8; 16];
     let mut rest = sum;
     let mut i: usize = 16;
@@ -70,5 +78,10 @@ pub fn digest(words: &[u8], sum: u64) -> bool {
         text[i] = digit((rest % 16) as u8);
         rest /= 16;
     }
+    text
+}
+
+pub fn digest(words: &[u8], sum: u64) -> bool {
+    let text = digits_of(sum);
     say(words) && say(&text) && say(b"\n")
 }

@@ -8,7 +8,7 @@ use lib.ListN.{length, getD}
 use borrow.Author.Tests.{ne-eqb, not-false}
 use Rattle.numbers.specs.Choice.{if_then_else_, _=?_}
 use Rattle.numbers.proofs.Choice.{tested}
-use Rattle.dsp.specs.Mix.{bit}
+use Rattle.numbers.specs.Bits.{bit}
 use Rattle.dsp.proofs.Tests.{lt, _and_}
 use Rattle.log.specs.Log.{readAt, Moves, Decoded, before, decodeFrom, decode}
 use Rattle.log.specs.declared.Record.{Record}

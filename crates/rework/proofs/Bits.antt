@@ -14,9 +14,8 @@ use lib.Count.{ones, ones-step}
 use lib.Pow.{pow-lt, shr-shr}
 use Rattle.numbers.specs.Choice.{if_then_else_, _=?_}
 use Rattle.numbers.proofs.Choice.{tested, chosen}
-use Rattle.dsp.specs.Mix.{bit}
+use Rattle.numbers.specs.Bits.{bit, withBit}
 use Rattle.dsp.specs.Registers.{turns}
-use Rattle.dsp.specs.Lane.{withBit}
 use Rattle.dsp.proofs.Tests.{Decides, _and_}
 use Rattle.dsp.proofs.Turns.{turns-keep}
 use Rattle.rework.specs.Members.{joinAfter, joinedBy, counted, voicesIn}

@@ -15,7 +15,7 @@ use Rattle.log.specs.Log.{decode}
 use Rattle.log.specs.declared.Record.{Record}
 use Rattle.log.specs.declared.Record.the-variants.{Write, Ticks, Reading}
 use Rattle.sitting.specs.Play.{play, playAll, starting}
-use Rattle.rework.specs.Demands.{Played, heardAfter, tickBy, logBy, playedIn, Demand2}
+use Rattle.rework.specs.Demands.{Played, afterTick, tickBy, logBy, playedIn, Demand2}
 use Rattle.rework.proofs.Tape.{Beat, ticksThen, beats, Small}
 use Rattle.rework.proofs.Beats.{small-beats}
 use Rattle.rework.proofs.Taken.{unrefused, run-is}
@@ -28,14 +28,14 @@ step-is : (old : List ℕ) (p : Parts) (ram : List ℕ) → Whole p ram → step
 unfolding stepOf
 step-is old p ram h = rw (eq-eqb (length ram) 0x10000 (h .room), whole-fit h) (ap ticked (tick-whole [] old p ram))
 
-tick-is : (b : Bench) (q : List ℕ) → Whole (b .parts) (b .ram) → heardAfter (playing b q) (stepOf (together (b .parts)) (b .ram)) ≡ playing (benchTick everything b) q
+tick-is : (b : Bench) (q : List ℕ) → Whole (b .parts) (b .ram) → afterTick (playing b q) (stepOf (together (b .parts)) (b .ram)) ≡ playing (benchTick everything b) q
 unfolding benchTick
 tick-is b q h =
     let p = b .parts in
     let t = tickOf everything (b .old) p (b .ram) in
     let z = whole-sized h in
     let f = tick-renders (together p) (b .ram) (b .old) (h .room) (z .registers) (z .voices) (z .delays) (fit-facts (together p) (whole-fit h)) in
-    ap (heardAfter (playing b q)) (step-is (b .old) p (b .ram) h)
+    ap (afterTick (playing b q)) (step-is (b .old) p (b .ram) h)
     ∙ (λ i. record { dsp = together (t .parts); ram = t .ram; pcm = b .pcm ++ sym f i; readings = q })
 
 record Many (c : Bench) (q : List ℕ) (x : Played) : Type 0 where
@@ -49,7 +49,7 @@ ticks-are (suc n) b q h =
     let r = ticks-are n b q h in
     let c = ticksOf everything n b in
     record {
-      is = ap (λ (x : Played). heardAfter x (stepOf (x .dsp) (x .ram))) (r .is) ∙ tick-is c q (r .whole);
+      is = ap (λ (x : Played). afterTick x (stepOf (x .dsp) (x .ram))) (r .is) ∙ tick-is c q (r .whole);
       whole = whole-tick everything (c .old) (c .parts) (c .ram) (r .whole);
     }
 

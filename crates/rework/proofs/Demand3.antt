@@ -172,7 +172,7 @@ demand3 s d₁ d₂ ram log₁ log₂ pcm₁ sheet₁ readings₁ pcm₂ sheet�
       ram-whole = f₂ .ram-whole;
       fits = f₂ .fits;
       taken = f₂ .taken;
-      heard = lp ∙ f₂ .heard;
+      sounds = lp ∙ f₂ .sounds;
       shown = filled a log₂ (t₁ .rows) sheet₂ (apart d₂) ram (f₂ .taken) s₁ (r .rows);
       told = lr ∙ f₂ .told;
     } in
@@ -187,8 +187,8 @@ demand3 s d₁ d₂ ram log₁ log₂ pcm₁ sheet₁ readings₁ pcm₂ sheet�
     let end-is : first .dsp ≡ end = ap (λ (o : Outcome). o .dsp) i₁ ∙ ap together (p₁ .parts) in
     let sheet₂-is : second .sheet ≡ flatten (t₂ .rows) = ap (λ (o : Outcome). o .sheet) i₂ ∙ p₂ .sheet in
     let played : Run = playAll (only a) rs₂ (starting d₂ ram old) in
-    let x-is : reworkOf s d₂ (first .dsp) ram log₁ log₂ (first .sheet) pcm readings ≡ reworked a d₂ end (ran m₂ played) =
-    (λ i. reworkOf s d₂ (end-is i) ram log₁ log₂ (sheet₁-is i) pcm readings) ∙ rw (eq-eqb (refusalOf s d₂ end ram log₁ log₂) 0 n₀) (ap (reworked a d₂ end) i₃) in
+    let x-is : reworkOf s d₂ (first .dsp) ram log₁ log₂ pcm (first .sheet) readings ≡ reworked a d₂ end (ran m₂ played) =
+    (λ i. reworkOf s d₂ (end-is i) ram log₁ log₂ pcm (sheet₁-is i) readings) ∙ rw (eq-eqb (refusalOf s d₂ end ram log₁ log₂) 0 n₀) (ap (reworked a d₂ end) i₃) in
     let sheet-is = ap (λ (y : Left). y .sheet) x-is ∙ p₃ .sheet ∙ ap flatten (g .rows) in
     record {
       refusal = ap (λ (y : Left). y .refusal) x-is;

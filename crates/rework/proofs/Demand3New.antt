@@ -1,79 +1,32 @@
 -- Demand 3 from the power-on record: where nothing is refused before the first run, the rework of it is not refused either.
-use mathlib.Core.Bool.{true, false, not, false≢true}
+use mathlib.Core.Bool.{true}
 use mathlib.Core.List.{List, [], _∷_}
-use mathlib.Core.Logic.{_≢_}
 use mathlib.Core.Path.{_≡_, refl, sym, ap, _∙_}
 use Prim.Native.Nat.{ℕ, _+_, _*_}
 use native.Mathlib.Omega.{arith}
 use lib.ListN.{length}
-use borrow.Author.Tests.{eqb-true, eqb-false, not-true, not-false}
+use borrow.Author.Tests.{eqb-true, eqb-false}
 use Rattle.numbers.specs.Choice.{_=?_}
 use Rattle.numbers.proofs.Choice.{tested}
 use Rattle.dsp.specs.Machine.{newDsp, apart}
-use Rattle.dsp.specs.Fit.{fit}
 use Rattle.dsp.specs.Tick.{everything, benchOf}
-use Rattle.dsp.specs.declared.registers.Dsp.{Dsp}
-use Rattle.dsp.proofs.Tests.{eq, _and_}
 use Rattle.log.specs.Log.{decode}
-use Rattle.log.specs.Measure.{ticksOf, readingsOf, measureOf}
+use Rattle.log.specs.Measure.{ticksIn, readingsIn, measureOf}
 use Rattle.log.specs.declared.Record.{Record}
 use Rattle.log.specs.declared.Record.the-variants.{Write, Ticks, Reading}
 use Rattle.log.proofs.Turn.{taken}
 use Rattle.sitting.specs.Run.{Outcome, runOf}
-use Rattle.rework.specs.Alike.{stays, without, sameRecord, sameRecords, alike}
+use Rattle.rework.specs.Alike.{stays, without}
 use Rattle.rework.specs.Members.{modesOf, quiet}
-use Rattle.rework.specs.Rework.{Left, refusedBy as unreworked, refusalOf, reworkOf, afterFirst, reworkNewOf}
+use Rattle.rework.specs.Rework.{Left, refusalOf, reworkOf, afterFirst, reworkNewOf}
 use Rattle.rework.specs.Demands.{Bytes, Reworks, Demand3New}
-use Rattle.rework.proofs.Bits.{itself}
 use Rattle.rework.proofs.Taped.{taped}
 use Rattle.rework.proofs.Sheets.{sumIn, puts, measured-sums}
 use Rattle.rework.proofs.Beats.{quiet-without}
 use Rattle.rework.proofs.Keeps.{new-value}
 use Rattle.rework.proofs.Taken.{Fitting, unrefused, run-is}
-use Rattle.rework.proofs.Demand1.{run-refused}
+use Rattle.rework.proofs.Passed.{Unrefused, passed}
 use Rattle.rework.proofs.Demand3.{same-self, demand3}
-
--- ---- the test of two logs means that they are the same
-
-same-record : (r q : Record) → sameRecord r q ≡ true → r ≡ q
-unfolding sameRecord
-same-record (Write r x) (Write q y) e = let f = (eq r q and eq x y) .sound e in λ i. Write (f .0 i) (f .1 i)
-same-record (Write r x) (Ticks m) e = absurd (false≢true e)
-same-record (Write r x) (Reading q) e = absurd (false≢true e)
-same-record (Ticks n) (Write q y) e = absurd (false≢true e)
-same-record (Ticks n) (Ticks m) e = ap Ticks (eqb-true n m e)
-same-record (Ticks n) (Reading q) e = absurd (false≢true e)
-same-record (Reading r) (Write q y) e = absurd (false≢true e)
-same-record (Reading r) (Ticks m) e = absurd (false≢true e)
-same-record (Reading r) (Reading q) e = ap Reading (eqb-true r q e)
-
-same-records : (rs qs : List Record) → sameRecords rs qs ≡ true → rs ≡ qs
-unfolding sameRecords
-same-records [] [] e = refl
-same-records [] (q ∷ qs) e = absurd (false≢true e)
-same-records (r ∷ rs) [] e = absurd (false≢true e)
-same-records (r ∷ rs) (q ∷ qs) e = let f = (itself (sameRecord r q) and itself (sameRecords rs qs)) .sound e in λ i. same-record r q (f .0) i ∷ same-records rs qs (f .1) i
-
--- ---- what a call that is not refused before the first run was given
-
-pub record Unrefused (s : ℕ) (start end : Dsp) (ram log₁ log₂ : List ℕ) : Type 0 where
-  pub first : measureOf log₁ .refusal ≡ 0
-  pub second : measureOf log₂ .refusal ≡ 0
-  pub logs : without s (decode log₁ .records) ≡ without s (decode log₂ .records)
-  pub still : quiet (decode log₂ .records) (modesOf start) ≡ true
-
-passed : (s : ℕ) (start end : Dsp) (ram log₁ log₂ : List ℕ) → refusalOf s start end ram log₁ log₂ ≡ 0 → Unrefused s start end ram log₁ log₂
-unfolding refusalOf alike
-passed s start end ram log₁ log₂ =
-    let P : ℕ → Type 0 = (λ k. k ≡ 0 → Unrefused s start end ram log₁ log₂) in
-    let m = measureOf log₁ in
-    let n = measureOf log₂ in
-    tested P (not (length ram =? 0x10000)) (λ _ z. absurd (omega arith)) (λ _. tested P (not (fit start)) (λ _ z. absurd (omega arith)) (λ _.
-    tested P (not (fit end)) (λ _ z. absurd (omega arith)) (λ _. tested P (not (m .refusal =? 0)) (λ a z. absurd (eqb-false (m .refusal) 0 (not-true _ a) z)) (λ a.
-    tested P (not (n .refusal =? 0)) (λ b z. absurd (eqb-false (n .refusal) 0 (not-true _ b) z)) (λ b.
-    tested P (not (sameRecords (without s (decode log₁ .records)) (without s (decode log₂ .records)))) (λ _ z. absurd (omega arith)) (λ c.
-    tested P (not (quiet (decode log₂ .records) (modesOf start))) (λ _ z. absurd (omega arith)) (λ d _.
-    record { first = eqb-true _ _ (not-false _ a); second = eqb-true _ _ (not-false _ b); logs = same-records _ _ (not-false _ c); still = not-false _ d })))))))
 
 -- ---- as many ticks and readings in both logs
 
@@ -92,27 +45,29 @@ sums-same f h s rs qs e = sym (sum-without f h s rs) ∙ ap (sumIn f) e ∙ sum-
 
 -- ---- the first run, and the rework of it
 
-module _ (s : ℕ) (ram log₁ log₂ sheet pcm readings : List ℕ) (b₁ : Bytes log₁) (b₂ : Bytes log₂) where
+module _ (s : ℕ) (ram log₁ log₂ pcm sheet readings : List ℕ) (b₁ : Bytes log₁) (b₂ : Bytes log₂) where
   abbrev second : Outcome
   second = runOf newDsp ram log₂ pcm sheet readings
 
-  abbrev Is : Left → Type 0
-  Is x =
-      (x .refusal ≢ 0 → x ≡ unreworked (x .refusal) newDsp sheet pcm readings)
-      × (x .refusal ≡ 0 → (x .sheet ≡ second .sheet) × (x .readings ≡ second .readings) × (x .pcm ≡ second .pcm) × (x .dsp ≡ second .dsp))
+  abbrev first : Outcome
+  first = runOf newDsp ram log₁ pcm sheet readings
+
+  -- both logs have as many ticks and readings
+  pub same-totals : Unrefused s newDsp newDsp ram log₁ log₂ → (measureOf log₁ .ticks ≡ measureOf log₂ .ticks) × (measureOf log₁ .readings ≡ measureOf log₂ .readings)
+  same-totals u =
+      let m = measured-sums log₁ (u .first) in
+      let n = measured-sums log₂ (u .second) in (
+        m .0 ∙ sums-same ticksIn (λ r x. refl) s (decode log₁ .records) (decode log₂ .records) (u .logs) ∙ sym (n .0),
+        m .1 ∙ sums-same readingsIn (λ r x. refl) s (decode log₁ .records) (decode log₂ .records) (u .logs) ∙ sym (n .1),
+      )
 
   module _ (u : Unrefused s newDsp newDsp ram log₁ log₂) (f : Fitting newDsp ram log₁ pcm sheet readings) where
-    abbrev first : Outcome
-    first = runOf newDsp ram log₁ pcm sheet readings
-
     -- what is lent fits the second log too
-    fits-second : Fitting newDsp ram log₂ pcm sheet readings
+    pub fits-second : Fitting newDsp ram log₂ pcm sheet readings
     fits-second =
-        let m = measured-sums log₁ (u .first) in
-        let n = measured-sums log₂ (u .second) in
-        let t = m .0 ∙ sums-same ticksOf (λ r x. refl) s (decode log₁ .records) (decode log₂ .records) (u .logs) ∙ sym (n .0) in
-        let q = m .1 ∙ sums-same readingsOf (λ r x. refl) s (decode log₁ .records) (decode log₂ .records) (u .logs) ∙ sym (n .1) in
-        record { ram-whole = f .ram-whole; fits = f .fits; taken = u .second; heard = f .heard ∙ ap (λ (k : ℕ). k * 4) t; shown = f .shown ∙ ap (λ (k : ℕ). k * 36) t; told = f .told ∙ q }
+        let t = same-totals u .0 in
+        let q = same-totals u .1 in
+        record { ram-whole = f .ram-whole; fits = f .fits; taken = u .second; sounds = f .sounds ∙ ap (λ (k : ℕ). k * 4) t; shown = f .shown ∙ ap (λ (k : ℕ). k * 36) t; told = f .told ∙ q }
 
     -- and the first run leaves as much as it was lent
     lengths : (length (first .pcm) ≡ length pcm) × (length (first .readings) ≡ length readings)
@@ -121,33 +76,25 @@ module _ (s : ℕ) (ram log₁ log₂ sheet pcm readings : List ℕ) (b₁ : Byt
         let p = taped everything (decode log₁ .records) (benchOf newDsp ram sheet) [] in
         let c = puts everything (decode log₁ .records) sheet (apart newDsp) ram in
         let m = measured-sums log₁ (u .first) in (
-          ap (λ (o : Outcome). length (o .pcm)) i ∙ ap length (p .pcm) ∙ c .pcm ∙ ap (λ (k : ℕ). k * 4) (sym (m .0)) ∙ sym (f .heard),
+          ap (λ (o : Outcome). length (o .pcm)) i ∙ ap length (p .pcm) ∙ c .pcm ∙ ap (λ (k : ℕ). k * 4) (sym (m .0)) ∙ sym (f .sounds),
           ap (λ (o : Outcome). length (o .readings)) i ∙ ap length (p .readings) ∙ c .readings ∙ sym (m .1) ∙ sym (f .told),
         )
 
-    reworks : Reworks s newDsp log₂ first second (reworkOf s newDsp (first .dsp) ram log₁ log₂ (first .sheet) (first .pcm) (first .readings))
+    pub reworks : Reworks s newDsp log₂ first second (reworkOf s newDsp (first .dsp) ram log₁ log₂ (first .pcm) (first .sheet) (first .readings))
     reworks =
         let q : quiet (decode log₁ .records) (modesOf newDsp) ≡ true = sym (quiet-without s (decode log₁ .records) (modesOf newDsp)) ∙ ap (λ (l : List Record). quiet l (modesOf newDsp)) (u .logs) ∙ quiet-without s (decode log₂ .records) (modesOf newDsp) ∙ u .still in
         demand3 s newDsp newDsp ram log₁ log₂ pcm sheet readings pcm sheet readings (first .pcm) (first .readings) new-value new-value b₁ b₂ (same-self s (apart newDsp)) (u .logs) q
         (ap (λ (o : Outcome). o .refusal) (run-is everything newDsp ram log₁ pcm sheet readings f)) (ap (λ (o : Outcome). o .refusal) (run-is everything newDsp ram log₂ pcm sheet readings fits-second))
         (lengths .0) (lengths .1)
 
-  after : Unrefused s newDsp newDsp ram log₁ log₂ → Is (afterFirst s ram log₁ log₂ (runOf newDsp ram log₁ pcm sheet readings))
+  pub after : Unrefused s newDsp newDsp ram log₁ log₂ → afterFirst s ram log₁ log₂ first .refusal ≡ 0 → Reworks s newDsp log₂ first second (afterFirst s ram log₁ log₂ first)
   after u =
-      let o = runOf newDsp ram log₁ pcm sheet readings in
-      tested Is (o .refusal =? 0)
-      (λ e.
-      let f = unrefused everything newDsp ram log₁ pcm sheet readings (eqb-true _ _ e) in
-      let r = reworks u f in
-      (λ h. absurd (h (r .refusal)), λ _. (r .sheet, r .readings, r .samples, r .end)))
-      (λ e.
-      let z = eqb-false _ _ e in
-      let g = run-refused everything newDsp ram log₁ pcm sheet readings z in
-      (λ _. (λ i. unreworked (o .refusal) newDsp (g i .sheet) (g i .pcm) (g i .readings)), λ h. absurd (z h)))
+      tested (λ (x : Left). x .refusal ≡ 0 → Reworks s newDsp log₂ first second x) (first .refusal =? 0)
+      (λ e _. reworks u (unrefused everything newDsp ram log₁ pcm sheet readings (eqb-true _ _ e))) (λ e z. absurd (eqb-false _ _ e z))
 
 pub demand3-new : Demand3New
 unfolding reworkNewOf
-demand3-new s ram log₁ log₂ sheet pcm readings b₁ b₂ =
-    tested (Is s ram log₁ log₂ sheet pcm readings b₁ b₂) (refusalOf s newDsp newDsp ram log₁ log₂ =? 0)
-    (λ e. after s ram log₁ log₂ sheet pcm readings b₁ b₂ (passed s newDsp newDsp ram log₁ log₂ (eqb-true _ _ e)))
-    (λ e. (λ _. refl, λ h. absurd (eqb-false _ _ e h)))
+demand3-new s ram log₁ log₂ pcm sheet readings b₁ b₂ =
+    tested (λ (x : Left). x .refusal ≡ 0 → Reworks s newDsp log₂ (runOf newDsp ram log₁ pcm sheet readings) (runOf newDsp ram log₂ pcm sheet readings) x) (refusalOf s newDsp newDsp ram log₁ log₂ =? 0)
+    (λ e. after s ram log₁ log₂ pcm sheet readings b₁ b₂ (passed s newDsp newDsp ram log₁ log₂ (eqb-true _ _ e)))
+    (λ e z. absurd (eqb-false _ _ e z))

@@ -1,57 +1,51 @@
--- An instance of demand 3, computed: two lessons that differ in the GAIN of voice 3, in which voice 4 joins late. While voice 3 is in the
--- set and PMON selects voice 5, nothing joins; once PMON selects voice 4, that does, and voice 5 stays out.
-use mathlib.Core.Bool.{Bool, true, _&&_}
+-- What is computed once: the programs that must not get through, each at an input of its own; and an instance of demand 3, two lessons
+-- that differ in the GAIN of voice 3, in which voice 4 joins late. While voice 3 is in the set and PMON selects voice 5, nothing joins;
+-- once PMON selects voice 4, that does, and voice 5 stays out.
+use mathlib.Core.Bool.{Bool, true, _&&_, true≢false}
 use mathlib.Core.List.{List, [], _∷_}
-use mathlib.Core.Path.{_≡_, refl}
+use mathlib.Core.Logic.{_≢_}
+use mathlib.Core.Path.{_≡_, refl, sym, ap, _∙_}
 use Prim.Native.Nat.{ℕ, zero, suc, _*_}
 use native.Mathlib.Omega.{arith}
-use lib.ListN.{getD, set, drop, replicate}
+use lib.ListN.{getD, drop, replicate}
+use lib.Signed.{mag}
 use Rattle.numbers.specs.Choice.{_<?_}
+use Rattle.numbers.specs.Bits.{withBit}
+use Rattle.numbers.specs.Listed.{listed}
 use Rattle.sound.specs.Clock.{periods, periodOf}
 use Rattle.sound.specs.Noise.{shifted}
 use Rattle.dsp.specs.Machine.{noVoice, newDsp, apart}
 use Rattle.dsp.specs.Sheet.{laneAt, pairBytes, laneBytes}
 use Rattle.dsp.specs.Brr.{byteAt, wordAt, decodeBlock}
 use Rattle.dsp.specs.Clock.{tickDue}
-use Rattle.dsp.specs.Echo.{echoWritten, lengthNow, pointerNext, echoMoved, echoTick, echoFrom, echoLane}
+use Rattle.sound.specs.Sound.{firSum, firOf}
+use Rattle.dsp.specs.Echo.{echoRead, historyNow, echoNow, echoWritten, lengthNow, pointerNext, echoMoved, echoTick, echoFrom, echoLane}
 use Rattle.dsp.specs.Envelope.{attackTick, gainTick, phaseTick, envelopeTick}
 use Rattle.dsp.specs.Fit.{fitVoices, fit}
-use Rattle.dsp.specs.Lane.{keyedOff, keyedOn, waited, noised, sourceOf, polledOf, waitedOf, cellAfter, cellOf, shownCell, withBit, putBytes, added, ownCell, turned}
-use Rattle.dsp.specs.Mix.{scaledOutput}
+use Rattle.dsp.specs.Lane.{keyedOff, keyedOn, waited, noised, sourceOf, polledOf, waitedOf, cellAfter, cellOf, shownCell, putBytes, added, ownCell, turned}
+use Rattle.dsp.specs.Mix.{scaledOutput, withVoice, dryTurn, dryOf, masterOf, renderOf}
 use Rattle.dsp.specs.Noise.{noiseTick}
-use Rattle.dsp.specs.Registers.{turns, writeParts, writeAt, writeOf}
-use Rattle.dsp.specs.Tick.{turn, voicesTick, globTick, sharedFrom, tickOf, benchTick, ticksOf}
-use Rattle.dsp.specs.Voice.{pitchOf, positionOf, samplesTaken, filled, placed, decodedAt, nextAddress, nextBlock, resolved, heard, takeOne, consume, advanced, interpolated, sounded, voiceStep}
+use Rattle.dsp.specs.Registers.{silenceVoice, silenceAll, turns, writeParts, writeAt, writeOf}
+use Rattle.dsp.specs.Tick.{turn, voicesTick, globTick, sharedFrom, tickOf, benchTick, ticksOf, stepOf}
+use Rattle.dsp.specs.Voice.{pitchOf, positionOf, samplesTaken, filled, placed, decodedAt, nextAddress, nextBlock, resolved, pushed, takeOne, consume, advanced, interpolated, sounded, voiceStep}
 use Rattle.dsp.specs.declared.voice.Voice.{Voice}
+use Rattle.dsp.specs.declared.registers.Dsp.{Dsp}
 use Rattle.dsp.proofs.Tests.{lt, _and_}
-use Rattle.log.specs.Log.{writeAt as writeAt-log, ticksAt, readingAt, byMark, readAt, decodeFrom, decode}
+use Rattle.log.specs.Log.{writeRecord, ticksRecord, readingRecord, byMark, readAt, decodeFrom, decode}
 use Rattle.log.specs.Measure.{measureOf}
 use Rattle.sitting.specs.Run.{Outcome, runOf, runMeasured, runWith}
 use Rattle.sitting.specs.Play.{play, playAll}
 use Rattle.rework.specs.Members.{modesOf, quiet, joinedBy, joinedOver, members, voicesIn}
-use Rattle.rework.specs.Rework.{Left, listed, picked, refusalOf, reworkOf}
+use Rattle.rework.specs.Rework.{Left, picked, refusalOf, reworkOf}
+use Rattle.rework.specs.Refusals.{firstOf}
 use Rattle.rework.specs.Demands.{Bytes, Reworks}
+use Rattle.rework.specs.NotThrough.{ram, put, ticks, ask, end, unclamped, NotThrough}
 use Rattle.rework.specs.Alike.{without, sameRecord, sameRecords, alike}
 use Rattle.rework.proofs.Bits.{itself}
 use Rattle.rework.proofs.Keeps.{new-value}
 use Rattle.rework.proofs.Demand3.{same-self, demand3}
 
 -- ---- the lessons
-
-abbrev ram : List ℕ
-ram = replicate 0x10000 0
-
-abbrev put : ℕ → ℕ → List ℕ → List ℕ
-put r x rest = 0x52 ∷ 0x57 ∷ r ∷ x ∷ rest
-
-abbrev ticks : ℕ → List ℕ → List ℕ
-ticks n rest = 0x54 ∷ 0x4B ∷ n ∷ 0 ∷ rest
-
-abbrev ask : ℕ → List ℕ → List ℕ
-ask r rest = 0x51 ∷ 0x41 ∷ r ∷ rest
-
-abbrev end : List ℕ
-end = 0x4E ∷ 0x44 ∷ []
 
 -- voice 3 plays noise, voice 4 is keyed on with it; PMON selects voice 5, then voice 4; OUTX of voices 3 and 5 is read
 abbrev lesson : ℕ → List ℕ
@@ -72,7 +66,7 @@ abbrev run : ℕ → Outcome
 run gain = runOf newDsp ram (lesson gain) pcm sheet told
 
 abbrev again : Left
-again = reworkOf 0x08 newDsp (run 0x7F .dsp) ram (lesson 0x7F) (lesson 0x40) (run 0x7F .sheet) pcm told
+again = reworkOf 0x08 newDsp (run 0x7F .dsp) ram (lesson 0x7F) (lesson 0x40) pcm (run 0x7F .sheet) told
 
 -- ---- what comes of it
 
@@ -101,26 +95,51 @@ pub record Seen : Type 0 where
   pub first-runs : run 0x7F .refusal ≡ 0
   pub second-runs : run 0x40 .refusal ≡ 0
 
+-- two things that have different numbers
+differ-by : {A : Type 0} (f : A → ℕ) {x y : A} (m n : ℕ) → f x ≡ m → f y ≡ n → m ≢ n → x ≢ y
+differ-by f m n p q d = λ e. d (sym p ∙ ap f e ∙ q)
+
+computed : Seen × NotThrough
+unfolding firstOf silenceVoice silenceAll firSum firOf echoRead historyNow echoNow withVoice dryTurn dryOf masterOf renderOf stepOf unclamped periods periodOf shifted byteAt wordAt decodeBlock tickDue echoWritten lengthNow pointerNext echoMoved echoTick echoFrom echoLane attackTick gainTick phaseTick envelopeTick fitVoices fit keyedOff keyedOn waited noised sourceOf polledOf waitedOf cellAfter cellOf shownCell withBit putBytes added ownCell turned scaledOutput noiseTick turns writeParts writeAt writeOf pairBytes laneBytes turn voicesTick globTick sharedFrom tickOf benchTick ticksOf pitchOf positionOf samplesTaken filled placed decodedAt nextAddress nextBlock resolved pushed takeOne consume advanced interpolated sounded voiceStep writeRecord ticksRecord readingRecord byMark readAt decodeFrom decode measureOf play playAll runMeasured runWith without sameRecord sameRecords alike quiet joinedBy joinedOver members voicesIn listed picked refusalOf reworkOf
+computed = (
+  record {
+    members = refl;
+    count = refl;
+    lane-before = refl;
+    lane-after = refl;
+    position-before = refl;
+    position-after = refl;
+    readings-before = refl;
+    readings-after = refl;
+    lane-second = refl;
+    position-second = refl;
+    readings-second = refl;
+    logs = refl;
+    quiet-is = refl;
+    first-runs = refl;
+    second-runs = refl;
+  },
+  record {
+    refusesAll = λ h. let e : _≡_ {A = ℕ} 2 0 = h .render newDsp .0 in absurd (omega (arith, e));
+    taken = (refl, refl, refl, refl);
+    sounds = differ-by (λ (xs : List ℕ). getD xs 0 0) 0xF4 0 refl refl (λ e. absurd (omega (arith, e)));
+    moves = differ-by (λ (xs : List ℕ). getD xs 0 0) 0xF4 0xFA refl refl (λ e. absurd (omega (arith, e)));
+    steps = λ e. true≢false (ap (λ (d : Dsp). d .«every_other_sample») e);
+    goesOn = differ-by (λ (xs : List ℕ). getD xs 0 0) 0xFC 0 refl refl (λ e. absurd (omega (arith, e)));
+    rewrites = differ-by (λ (xs : List ℕ). getD xs 182 0) 0x40 0x7F refl refl (λ e. absurd (omega (arith, e)));
+    counts = (refl, refl);
+    onlyNamed = differ-by (λ (xs : List ℕ). getD xs 4 0) 0x55 0 refl refl (λ e. absurd (omega (arith, e)));
+    clampsEach = differ-by (mag) 253 31753 refl refl (λ e. absurd (omega (arith, e)));
+    keepsOn = differ-by (λ (v : Voice). v .«pitch_counter») 0x1000 0 refl refl (λ e. absurd (omega (arith, e)));
+    untouched = differ-by (λ (xs : List ℕ). getD xs 0 0) 0x7F 0 refl refl (λ e. absurd (omega (arith, e)));
+  },
+)
+
 pub seen : Seen
-unfolding periods periodOf shifted byteAt wordAt decodeBlock tickDue echoWritten lengthNow pointerNext echoMoved echoTick echoFrom echoLane attackTick gainTick phaseTick envelopeTick fitVoices fit keyedOff keyedOn waited noised sourceOf polledOf waitedOf cellAfter cellOf shownCell withBit putBytes added ownCell turned scaledOutput noiseTick turns writeParts writeAt writeOf pairBytes laneBytes turn voicesTick globTick sharedFrom tickOf benchTick ticksOf pitchOf positionOf samplesTaken filled placed decodedAt nextAddress nextBlock resolved heard takeOne consume advanced interpolated sounded voiceStep writeAt-log ticksAt readingAt byMark readAt decodeFrom decode measureOf play playAll runMeasured runWith without sameRecord sameRecords alike quiet joinedBy joinedOver members voicesIn listed picked refusalOf reworkOf
-seen =
-    record {
-      members = refl;
-      count = refl;
-      lane-before = refl;
-      lane-after = refl;
-      position-before = refl;
-      position-after = refl;
-      readings-before = refl;
-      readings-after = refl;
-      lane-second = refl;
-      position-second = refl;
-      readings-second = refl;
-      logs = refl;
-      quiet-is = refl;
-      first-runs = refl;
-      second-runs = refl;
-    }
+seen = computed .0
+
+pub not-through : NotThrough
+not-through = computed .1
 
 -- ---- so demand 3 speaks of it
 

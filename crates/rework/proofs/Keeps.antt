@@ -10,13 +10,13 @@ use lib.Seq.{getD-set-other}
 use Rattle.numbers.specs.Choice.{if_then_else_, _=?_}
 use Rattle.numbers.specs.Signed.{highZ}
 use Rattle.numbers.proofs.Choice.{chosen}
+use Rattle.numbers.specs.Bits.{bit, withBit}
 use Rattle.sound.specs.Sound.{to16}
 use Rattle.dsp.specs.Machine.{noVoice, newVoice, newDsp, Parts, apart, together}
 use Rattle.dsp.specs.Fit.{fit}
 use Rattle.dsp.specs.Registers.{at, resets, writeParts}
-use Rattle.dsp.specs.Mix.{bit}
 use Rattle.dsp.specs.Sheet.{laneAt}
-use Rattle.dsp.specs.Lane.{Cell, withBit, putBytes, ownCell, shownCell, turned}
+use Rattle.dsp.specs.Lane.{Cell, putBytes, ownCell, shownCell, turned}
 use Rattle.dsp.specs.Tick.{Round, turn, voicesTick, sharedOf, startOf, tickOf, Bench, benchTick}
 use Rattle.dsp.specs.declared.lane.Shared.{Shared}
 use Rattle.dsp.specs.declared.voice.Voice.{Voice}

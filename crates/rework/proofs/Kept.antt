@@ -14,13 +14,13 @@ use lib.Seq.{getD-set-same, getD-set-other, set-getD}
 use Rattle.numbers.specs.Choice.{if_then_else_, _<?_, _=?_}
 use Rattle.numbers.specs.Signed.{highZ}
 use Rattle.numbers.proofs.Choice.{tested, chosen}
+use Rattle.numbers.specs.Bits.{bit, withBit}
 use Rattle.sound.specs.Sound.{even}
 use Rattle.dsp.specs.Machine.{noVoice, Parts}
 use Rattle.dsp.specs.Registers.{turns, resets, writeVoice, silenced, silenceVoice, silenceAll, globWrite, tapsAfter, writeParts}
 use Rattle.dsp.specs.Noise.{noiseTick}
-use Rattle.dsp.specs.Mix.{bit}
 use Rattle.dsp.specs.Sheet.{pairBytes, laneBytes, laneAt}
-use Rattle.dsp.specs.Lane.{settingsOf, delayOf, waited, sourceOf, Cell, polledOf, waitedOf, cellAfter, cellOf, withBit, putBytes, added, landed, ownCell, turned}
+use Rattle.dsp.specs.Lane.{settingsOf, delayOf, waited, sourceOf, Cell, polledOf, waitedOf, cellAfter, cellOf, putBytes, added, landed, ownCell, turned}
 use Rattle.dsp.specs.Echo.{Echo, EchoLane, echoWritten, echoTick, echoLane}
 use Rattle.dsp.specs.Tick.{Round, landing, turn, voicesTick, globTick, sharedFrom, sharedOf, everything, startOf, Ticked, tickOf}
 use Rattle.dsp.specs.declared.voice.Voice.{Voice}

@@ -14,8 +14,14 @@ pub mod Sheets
 pub mod Beats
 pub mod Taken
 pub mod Keeps
-pub mod Demand1
+pub mod Faults
+pub mod Passed
+pub mod Refused
 pub mod Demand2
 pub mod Demand3
 pub mod Instance
 pub mod Demand3New
+pub mod Demand1
+pub mod EveryCall
+pub mod Shows
+pub mod Polls

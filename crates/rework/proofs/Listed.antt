@@ -7,14 +7,14 @@ use native.Mathlib.Decide.{ℕ-discrete}
 use native.Mathlib.Numerals.{add-one}
 use lib.ListN.{getD, set, drop, length, length-append, length-set, List·getD-append, drop-of-length-le}
 use lib.Seq.{drop-cons, append-snoc, set-at, getD-at, ext-getD}
-use Rattle.rework.specs.Rework.{listed}
+use Rattle.numbers.specs.Listed.{listed}
 
 length-listed : {A : Type 0} (f : ℕ → A) (n : ℕ) → length (listed f n) ≡ n
 unfolding listed
 length-listed f zero = refl
 length-listed f (suc n) = let e = length-listed f n in length-append (listed f n) (f n ∷ []) ∙ omega (arith, e)
 
-getD-listed : {A : Type 0} (f : ℕ → A) (n i : ℕ) (d : A) → i < n → getD (listed f n) i d ≡ f i
+pub getD-listed : {A : Type 0} (f : ℕ → A) (n i : ℕ) (d : A) → i < n → getD (listed f n) i d ≡ f i
 unfolding listed
 getD-listed f zero i d l = absurd (omega arith)
 getD-listed f (suc n) i d l =

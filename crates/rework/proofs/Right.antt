@@ -9,10 +9,11 @@ use lib.ListN.{getD, set, drop, replicate, length, length-set, length-append, le
 use Rattle.numbers.specs.Choice.{if_then_else_, _<?_, _=?_}
 use Rattle.numbers.specs.Signed.{cutZ}
 use Rattle.numbers.proofs.Choice.{chosen}
+use Rattle.numbers.specs.Bits.{bit}
 use Rattle.sound.specs.Sound.{joined}
 use Rattle.dsp.specs.Machine.{noVoice, Parts, apart}
 use Rattle.dsp.specs.Registers.{at, turns, writeVoice, resets, silenced, silenceVoice, silenceAll, bytesAfter, voicesAfter, globWrite, writeParts}
-use Rattle.dsp.specs.Mix.{bit, masterOf}
+use Rattle.dsp.specs.Mix.{masterOf}
 use Rattle.dsp.specs.Sheet.{pairBytes, laneBytes, laneAt}
 use Rattle.dsp.specs.Noise.{noiseTick}
 use Rattle.dsp.specs.Echo.{withEcho, echoNow, historyNow, echoMoved, echoWritten, echoTick, echoFrom, echoLane}

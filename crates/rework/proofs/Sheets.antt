@@ -16,7 +16,7 @@ use Rattle.dsp.specs.Tick.{tickOf}
 use Rattle.dsp.specs.declared.tick.Work.{Work}
 use Rattle.dsp.proofs.Batches.{lane-part}
 use Rattle.log.specs.Log.{decode}
-use Rattle.log.specs.Measure.{ticksOf, readingsOf, total, measureOf}
+use Rattle.log.specs.Measure.{ticksIn, readingsIn, total, measureOf}
 use Rattle.log.specs.declared.Measured.{Measured}
 use Rattle.log.specs.declared.Record.{Record}
 use Rattle.log.specs.declared.Record.the-variants.{Write, Ticks, Reading}
@@ -99,11 +99,11 @@ ticks-more w (suc n) bs k q h old p ram =
     let b = e .pcm in
     record { rows = omega (arith, a); pcm = omega (arith, b); readings = e .readings }
 
-pub puts : (w : Work) (rs : List Record) (old : List ℕ) (p : Parts) (ram : List ℕ) → Puts (sumIn ticksOf rs) (sumIn readingsOf rs) (tape w (beats rs) old p ram)
+pub puts : (w : Work) (rs : List Record) (old : List ℕ) (p : Parts) (ram : List ℕ) → Puts (sumIn ticksIn rs) (sumIn readingsIn rs) (tape w (beats rs) old p ram)
 unfolding beats tape sumIn flatten
 puts w [] old p ram = record { rows = refl; pcm = refl; readings = refl }
 puts w (Write i v ∷ rs) old p ram = puts-as (puts w rs old (writeParts i v p) ram) (omega arith) (omega arith)
-puts w (Ticks n ∷ rs) old p ram = puts-as (ticks-more w n (beats rs) (sumIn ticksOf rs) (sumIn readingsOf rs) (puts w rs) old p ram) refl (omega arith)
+puts w (Ticks n ∷ rs) old p ram = puts-as (ticks-more w n (beats rs) (sumIn ticksIn rs) (sumIn readingsIn rs) (puts w rs) old p ram) refl (omega arith)
 puts w (Reading r ∷ rs) old p ram =
     let e = puts w rs old p ram in
     let a = e .rows in
@@ -112,23 +112,23 @@ puts w (Reading r ∷ rs) old p ram =
     record { rows = omega (arith, a); pcm = omega (arith, b); readings = omega (arith, c) }
 
 -- the ticks and readings of a log that is refused by nothing
-pub total-sums : (rs : List Record) (stop t q T Q : ℕ) → total rs stop t q ≡ good T Q → (T ≡ t + sumIn ticksOf rs) × (Q ≡ q + sumIn readingsOf rs)
+pub total-sums : (rs : List Record) (stop t q T Q : ℕ) → total rs stop t q ≡ good T Q → (T ≡ t + sumIn ticksIn rs) × (Q ≡ q + sumIn readingsIn rs)
 unfolding total sumIn
 total-sums [] stop t q T Q =
     tested (λ (m : Measured). m ≡ good T Q → (T ≡ t + 0) × (Q ≡ q + 0)) (stop =? 0)
     (λ _ e. let z : t ≡ T = ap (λ (m : Measured). m .ticks) e in let y : q ≡ Q = ap (λ (m : Measured). m .readings) e in (omega (arith, z), omega (arith, y)))
     (λ f e. absurd (eqb-false stop 0 f (ap (λ (m : Measured). m .refusal) e)))
 total-sums (r ∷ rs) stop t q T Q =
-    tested (λ (m : Measured). m ≡ good T Q → (T ≡ t + (ticksOf r + sumIn ticksOf rs)) × (Q ≡ q + (readingsOf r + sumIn readingsOf rs))) (32000 <? t + ticksOf r)
+    tested (λ (m : Measured). m ≡ good T Q → (T ≡ t + (ticksIn r + sumIn ticksIn rs)) × (Q ≡ q + (readingsIn r + sumIn readingsIn rs))) (32000 <? t + ticksIn r)
     (λ _ e. let z : _≡_ {A = ℕ} 7 0 = ap (λ (m : Measured). m .refusal) e in absurd (omega (arith, z)))
-    (λ _ e. let z = total-sums rs stop (t + ticksOf r) (q + readingsOf r) T Q e in let x = z .0 in let y = z .1 in (omega (arith, x), omega (arith, y)))
+    (λ _ e. let z = total-sums rs stop (t + ticksIn r) (q + readingsIn r) T Q e in let x = z .0 in let y = z .1 in (omega (arith, x), omega (arith, y)))
 
 pub measured-sums : (log : List ℕ) → measureOf log .refusal ≡ 0
-    → (measureOf log .ticks ≡ sumIn ticksOf (decode log .records)) × (measureOf log .readings ≡ sumIn readingsOf (decode log .records))
+    → (measureOf log .ticks ≡ sumIn ticksIn (decode log .records)) × (measureOf log .readings ≡ sumIn readingsIn (decode log .records))
 measured-sums log z =
     let m = measureOf log in
     let t = total-sums (decode log .records) (decode log .stop) 0 0 (m .ticks) (m .readings) (taken log m refl z .all) in
-    (t .0 ∙ zero-add (sumIn ticksOf (decode log .records)), t .1 ∙ zero-add (sumIn readingsOf (decode log .records)))
+    (t .0 ∙ zero-add (sumIn ticksIn (decode log .records)), t .1 ∙ zero-add (sumIn readingsIn (decode log .records)))
 
 -- ---- records that differ only in what is a set's own
 

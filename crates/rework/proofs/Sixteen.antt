@@ -15,9 +15,10 @@ use Rattle.numbers.proofs.Choice.{chosen}
 use Rattle.numbers.proofs.Range.{times-law, shr-law}
 use Rattle.numbers.proofs.Cut.{cutZ-any}
 use Rattle.numbers.proofs.Clamp.{clamp-within}
+use Rattle.numbers.specs.Bits.{bit}
 use Rattle.sound.specs.Sound.{to16, even, joined, levelledZ, firTap, firSum, firOf}
 use Rattle.dsp.specs.Envelope.{isOff, envelopeTick}
-use Rattle.dsp.specs.Mix.{bit, scaledOutput}
+use Rattle.dsp.specs.Mix.{scaledOutput}
 use Rattle.dsp.specs.Gauss.{tapZ}
 use Rattle.dsp.specs.Noise.{noiseSample}
 use Rattle.dsp.specs.Voice.{Sounding, Stepped, advanced, resolved, withEnvelope, interpolated, idle, shown, sounded, voiceStep}

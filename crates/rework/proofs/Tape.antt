@@ -7,9 +7,9 @@ use lib.IntN.{pos}
 use lib.ListN.{getD, drop, length}
 use Rattle.numbers.specs.Choice.{if_then_else_}
 use Rattle.numbers.proofs.Choice.{chosen}
+use Rattle.numbers.specs.Bits.{bit}
 use Rattle.dsp.specs.Machine.{noVoice, Parts}
 use Rattle.dsp.specs.Registers.{writeParts}
-use Rattle.dsp.specs.Mix.{bit}
 use Rattle.dsp.specs.Sheet.{laneAt}
 use Rattle.dsp.specs.Echo.{withEcho, EchoLane, echoMoved, echoTick, echoFrom, echoLane}
 use Rattle.dsp.specs.Tick.{Ticked, globTick, tickOf}

@@ -6,7 +6,7 @@ use Rattle.dsp.specs.Tick.{Ticked, tickOf, Bench, onward, benchTick, benchWrite
 use Rattle.dsp.specs.declared.tick.Work.{Work}
 use Rattle.log.specs.declared.Record.{Record}
 use Rattle.log.specs.declared.Record.the-variants.{Write, Ticks, Reading}
-use Rattle.sitting.specs.Play.{Run, byteOf, play, playAll}
+use Rattle.sitting.specs.Play.{Run, registerIn, play, playAll}
 use Rattle.rework.proofs.Tape.{Beat, tick, ticksThen, beats, Tape, behindTick, behindReading, tape}
 
 -- x: a run that played the beats of t, from a bench and readings so far
@@ -64,4 +64,4 @@ taped w (Write i v ∷ rs) b q =
     let h = taped w rs (benchWrite i v b) q in
     record { parts = h .parts; ram = h .ram; pcm = h .pcm; sheet = h .sheet; readings = h .readings }
 taped w (Ticks n ∷ rs) b q = plays-ticks w n (beats rs) b q _ (taped w rs (ticksOf w n b) q)
-taped w (Reading r ∷ rs) b q = plays-reading (byteOf b r) (tapeAt w (beats rs) b) b q _ (taped w rs b (q ++ (byteOf b r ∷ [])))
+taped w (Reading r ∷ rs) b q = plays-reading (registerIn b r) (tapeAt w (beats rs) b) b q _ (taped w rs b (q ++ (registerIn b r ∷ [])))

@@ -5,7 +5,7 @@ use mathlib.Core.Path.{_≡_}
 use Prim.Native.Nat.{ℕ, _/_, _%_, _≤_, _<_}
 use lib.ListN.{length}
 use Rattle.numbers.specs.Choice.{if_then_else_, _<?_, _=?_}
-use Rattle.dsp.specs.Mix.{bit}
+use Rattle.numbers.specs.Bits.{bit}
 use Rattle.log.specs.Log.{recordsFrom}
 use Rattle.log.specs.declared.Record.{Record}
 use Rattle.log.specs.declared.Record.the-variants.{Write, Ticks, Reading}

@@ -5,9 +5,9 @@ use mathlib.Core.Logic.{_≢_}
 use mathlib.Core.Path.{_≡_}
 use Prim.Native.Nat.{ℕ, _+_, _*_, _%_, _≤_, _<_}
 use lib.ListN.{getD, length}
+use Rattle.numbers.specs.Bits.{bit}
 use Rattle.sound.specs.Sound.{to16}
 use Rattle.dsp.specs.Machine.{noVoice, Parts}
-use Rattle.dsp.specs.Mix.{bit}
 
 -- voice j is not of the set
 abbrev pub Outside : ℕ → ℕ → Type 0

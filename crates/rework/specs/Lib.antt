@@ -1,5 +1,10 @@
+pub mod Refusals
 pub mod Alike
 pub mod Members
 pub mod Differ
 pub mod Rework
 pub mod Demands
+pub mod KeptFit
+pub mod Shown
+pub mod Order
+pub mod NotThrough

@@ -3,9 +3,8 @@ use mathlib.Core.Bool.{Bool, true, _&&_, _||_}
 use mathlib.Core.List.{List, [], _∷_}
 use Prim.Native.Nat.{ℕ, zero, suc, _+_, _*_, _/_}
 use Rattle.numbers.specs.Choice.{if_then_else_, _=?_}
-use Rattle.dsp.specs.Mix.{bit}
+use Rattle.numbers.specs.Bits.{bit, withBit}
 use Rattle.dsp.specs.Registers.{at, turns}
-use Rattle.dsp.specs.Lane.{withBit}
 use Rattle.dsp.specs.declared.registers.Dsp.{Dsp}
 use Rattle.log.specs.declared.Record.{Record}
 use Rattle.log.specs.declared.Record.the-variants.{Write, Ticks, Reading}

@@ -1,13 +1,14 @@
 -- A rework: its refusals in their order, and what it leaves, for any old sheet (document 01, "Rework").
 use mathlib.Core.Bool.{Bool, false, not, _&&_}
-use mathlib.Core.List.{List, [], _∷_, _++_}
-use Prim.Native.Nat.{ℕ, zero, suc, _-_, _/_, _%_}
+use mathlib.Core.List.{List}
+use Prim.Native.Nat.{ℕ, _-_, _/_, _%_}
 use lib.Bits.{bitAnd, bitOr}
 use lib.ListN.{getD, length}
 use Rattle.numbers.specs.Choice.{if_then_else_, _<?_, _=?_}
+use Rattle.numbers.specs.Bits.{bit}
+use Rattle.numbers.specs.Listed.{listed}
 use Rattle.dsp.specs.Machine.{noVoice, newDsp, Parts, apart, together}
 use Rattle.dsp.specs.Fit.{fit}
-use Rattle.dsp.specs.Mix.{bit}
 use Rattle.dsp.specs.declared.registers.Dsp.{Dsp}
 use Rattle.dsp.specs.declared.tick.Work.{Work}
 use Rattle.log.specs.Log.{decode}
@@ -18,11 +19,6 @@ use Rattle.rework.specs.Members.{modesOf, quiet, members, voicesIn}
 
 -- ---- the end record: the old one, with the set's own parts of the new
 
--- f 0, f 1, .. f (n - 1)
-unfoldable pub listed : {A : Type 0} → (ℕ → A) → ℕ → List A
-listed f zero = []
-listed f (suc n) = listed f n ++ (f n ∷ [])
-
 -- of two arrays of eight, the elements of the set from the new
 unfoldable pub picked : {A : Type 0} → A → ℕ → List A → List A → List A
 picked d a new old = listed (λ j. if bit a j then getD new j d else getD old j d) 8
@@ -32,14 +28,14 @@ abbrev pub owns : ℕ → ℕ → Bool
 owns a i = (i % 16 <? 10) && bit a (i / 16)
 
 -- a register of the end record: of ENDX the set's bits are the new record's, and so are its voices' own registers
-abbrev pub byteOf : ℕ → ℕ → ℕ → ℕ → ℕ
-byteOf a i new old =
+abbrev pub endByte : ℕ → ℕ → ℕ → ℕ → ℕ
+endByte a i new old =
     if i =? 0x7C then bitOr (bitAnd new a) (bitAnd old (255 - a % 256)) else
     if owns a i then new else
     old
 
 unfoldable pub pickedBytes : ℕ → List ℕ → List ℕ → List ℕ
-pickedBytes a new old = listed (λ i. byteOf a i (getD new i 0) (getD old i 0)) 128
+pickedBytes a new old = listed (λ i. endByte a i (getD new i 0) (getD old i 0)) 128
 
 abbrev pub endOf : ℕ → Parts → Parts → Parts
 endOf a new old =
@@ -75,12 +71,12 @@ pub record Left : Type 0 where
   pub dsp : Dsp
   pub members : ℕ
   pub count : ℕ
-  pub sheet : List ℕ
   pub pcm : List ℕ
+  pub sheet : List ℕ
   pub readings : List ℕ
 
-abbrev pub refusedBy : ℕ → Dsp → List ℕ → List ℕ → List ℕ → Left
-refusedBy k start sheet pcm readings = record { refusal = k; dsp = start; members = 0; count = 0; sheet = sheet; pcm = pcm; readings = readings }
+abbrev pub unreworked : ℕ → Dsp → List ℕ → List ℕ → List ℕ → Left
+unreworked k start pcm sheet readings = record { refusal = k; dsp = start; members = 0; count = 0; pcm = pcm; sheet = sheet; readings = readings }
 
 -- the set A, over the new log
 abbrev pub setOf : ℕ → Dsp → List ℕ → ℕ
@@ -98,29 +94,29 @@ reworked a start end o =
       dsp = together (endOf a (apart (o .dsp)) (apart end));
       members = a;
       count = voicesIn a;
-      sheet = o .sheet;
       pcm = o .pcm;
+      sheet = o .sheet;
       readings = o .readings;
     }
-    else refusedBy (o .refusal) start (o .sheet) (o .pcm) (o .readings)
+    else unreworked (o .refusal) start (o .pcm) (o .sheet) (o .readings)
 
--- s: the named voices; start: the new start record; end: the old end record; then RAM, the old log, the new one, the old sheet,
--- and PCM and readings to fill
+-- s: the named voices; start: the new start record; end: the old end record; then RAM, the old log, the new one, PCM to fill, the old
+-- sheet, and readings to fill
 unfoldable pub reworkOf : ℕ → Dsp → Dsp → List ℕ → List ℕ → List ℕ → List ℕ → List ℕ → List ℕ → Left
-reworkOf s start end ram log₁ log₂ sheet pcm readings =
+reworkOf s start end ram log₁ log₂ pcm sheet readings =
     if refusalOf s start end ram log₁ log₂ =? 0 then
     reworked (setOf s start log₂) start end (runWith (only (setOf s start log₂)) start ram log₂ pcm sheet readings)
-    else refusedBy (refusalOf s start end ram log₁ log₂) start sheet pcm readings
+    else unreworked (refusalOf s start end ram log₁ log₂) start pcm sheet readings
 
 -- ---- two sittings from `new`, the first of them run inside
 
 abbrev pub afterFirst : ℕ → List ℕ → List ℕ → List ℕ → Outcome → Left
 afterFirst s ram log₁ log₂ o =
-    if o .refusal =? 0 then reworkOf s newDsp (o .dsp) ram log₁ log₂ (o .sheet) (o .pcm) (o .readings) else
-    refusedBy (o .refusal) newDsp (o .sheet) (o .pcm) (o .readings)
+    if o .refusal =? 0 then reworkOf s newDsp (o .dsp) ram log₁ log₂ (o .pcm) (o .sheet) (o .readings) else
+    unreworked (o .refusal) newDsp (o .pcm) (o .sheet) (o .readings)
 
 -- all is checked before the first tick; 10 is the first run's own, whose log has as many ticks and readings as the second
 unfoldable pub reworkNewOf : ℕ → List ℕ → List ℕ → List ℕ → List ℕ → List ℕ → List ℕ → Left
-reworkNewOf s ram log₁ log₂ sheet pcm readings =
+reworkNewOf s ram log₁ log₂ pcm sheet readings =
     if refusalOf s newDsp newDsp ram log₁ log₂ =? 0 then afterFirst s ram log₁ log₂ (runOf newDsp ram log₁ pcm sheet readings) else
-    refusedBy (refusalOf s newDsp newDsp ram log₁ log₂) newDsp sheet pcm readings
+    unreworked (refusalOf s newDsp newDsp ram log₁ log₂) newDsp pcm sheet readings

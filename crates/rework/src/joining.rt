@@ -5,11 +5,11 @@ ghost use Prim.Native.Nat.{_<_};
 ghost use Rattle.log.specs.Log.{decode};
 ghost use Rattle.rework.specs.Members.{modesBy, quietIn, quiet, joinAfter, joinedBy, joinedOver, joinedIn, members};
 use crate::modes::Modes;
-use crate::sets::bit;
-use crate::sets::with_bit;
 use log::Next;
 use log::Record;
 use log::read;
+use numbers::bit;
+use numbers::with_bit;
 
 // How far a walk over the log has come: the fields, whether every tick so far was quiet, and the set so far.
 pub struct Walked {

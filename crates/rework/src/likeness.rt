@@ -4,10 +4,10 @@ ghost use Prim.Native.Nat.{_<_};
 ghost use Rattle.log.specs.Log.{Known, decode};
 ghost use Rattle.log.specs.declared.Record.the-variants.{Write, Ticks, Reading};
 ghost use Rattle.rework.specs.Alike.{named, stays, sameRecord, alike, Opens};
-use crate::sets::bit;
 use log::Next;
 use log::Record;
 use log::read;
+use numbers::bit;
 
 // One of $j0 .. $j7 of a named voice j.
 fn is_named(set: u8, register: u8) -> bool

@@ -10,13 +10,12 @@ use crate::likeness::are_alike;
 use crate::modes::Modes;
 use crate::sets::count;
 use dsp::Dsp;
+use dsp::RAM_SIZE;
 use dsp::Work;
 use log::measure;
 use numbers::copy;
 use sitting::run_new;
 use sitting::run_with;
-
-const RAM_SIZE: usize = 0x10000;
 
 // 0 or the refusal, the end record, the set A, and the number of voices in it.
 pub struct Reworked {
@@ -102,10 +101,10 @@ fn checked(
     }
 }
 
-fn blank_ram() -> [u8; 0x10000]
+fn blank_ram() -> [u8; RAM_SIZE]
     ensures { λ r. ⌜ length r ≡ 0x10000 ⌝ }
 {
-    [0; 0x10000]
+    [0; RAM_SIZE]
 }
 
 // Works A's voices alone, from the first tick, over the old sheet and end record. RAM is read only, so that the run has a copy.
@@ -117,11 +116,11 @@ pub fn rework(
     ram: &[u8],
     old_log: &[u8],
     new_log: &[u8],
-    sheet: &mut [u8],
     pcm: &mut [u8],
+    sheet: &mut [u8],
     readings: &mut [u8],
 ) -> Reworked
-    ensures { λ r. ⌜ _≡_ {A = Left} (record { refusal = r .refusal; dsp = r .dsp; members = r .members; count = r .count; sheet = now (sheet .exit); pcm = now (pcm .exit); readings = now (readings .exit) }) (reworkOf named start «old_end» (now (ram .entry)) (now («old_log» .entry)) (now («new_log» .entry)) (now (sheet .entry)) (now (pcm .entry)) (now (readings .entry))) ⌝ }
+    ensures { λ r. ⌜ _≡_ {A = Left} (record { refusal = r .refusal; dsp = r .dsp; members = r .members; count = r .count; pcm = now (pcm .exit); sheet = now (sheet .exit); readings = now (readings .exit) }) (reworkOf named start «old_end» (now (ram .entry)) (now («old_log» .entry)) (now («new_log» .entry)) (now (pcm .entry)) (now (sheet .entry)) (now (readings .entry))) ⌝ }
 {
     let c = checked(named, start, old_end, ram, old_log, new_log);
     if c.refusal != 0 {
@@ -152,11 +151,11 @@ pub fn rework_new(
     ram: &[u8],
     old_log: &[u8],
     new_log: &[u8],
-    sheet: &mut [u8],
     pcm: &mut [u8],
+    sheet: &mut [u8],
     readings: &mut [u8],
 ) -> Reworked
-    ensures { λ r. ⌜ _≡_ {A = Left} (record { refusal = r .refusal; dsp = r .dsp; members = r .members; count = r .count; sheet = now (sheet .exit); pcm = now (pcm .exit); readings = now (readings .exit) }) (reworkNewOf named (now (ram .entry)) (now («old_log» .entry)) (now («new_log» .entry)) (now (sheet .entry)) (now (pcm .entry)) (now (readings .entry))) ⌝ }
+    ensures { λ r. ⌜ _≡_ {A = Left} (record { refusal = r .refusal; dsp = r .dsp; members = r .members; count = r .count; pcm = now (pcm .exit); sheet = now (sheet .exit); readings = now (readings .exit) }) (reworkNewOf named (now (ram .entry)) (now («old_log» .entry)) (now («new_log» .entry)) (now (pcm .entry)) (now (sheet .entry)) (now (readings .entry))) ⌝ }
 {
     let start = Dsp::new();
     let c = checked(named, start, start, ram, old_log, new_log);
@@ -176,8 +175,8 @@ pub fn rework_new(
         ram,
         old_log,
         new_log,
-        sheet,
         pcm,
+        sheet,
         readings,
     )
 }

@@ -15,7 +15,7 @@ use Rattle.dsp.specs.declared.registers.Dsp.{Dsp}
 use Rattle.dsp.specs.declared.tick.Work.{Work}
 use Rattle.dsp.proofs.Fits.{fit-kept-write}
 use Rattle.log.specs.Log.{Known, readAt, Moves, decodeFrom, decode}
-use Rattle.log.specs.Measure.{ticksOf as ticksIn, readingsOf as readingsIn, totalOf}
+use Rattle.log.specs.Measure.{ticksIn, readingsIn, totalOf}
 use Rattle.log.specs.declared.Record.{Record}
 use Rattle.log.specs.declared.Record.the-variants.{Write, Ticks, Reading}
 use Rattle.log.specs.declared.Next.{Next}

@@ -2,8 +2,9 @@
 -- leaves the records behind it.
 use mathlib.Core.Bool.{_&&_}
 use mathlib.Core.List.{List, [], _∷_, _++_, append-assoc, append-nil}
+use mathlib.Core.Logic.{_≢_}
 use mathlib.Core.Path.{_≡_, refl, sym, ap, subst, _∙_}
-use Prim.Native.Nat.{ℕ, zero, suc, _+_, _-_, _*_, _/_, _≤_, _<_}
+use Prim.Native.Nat.{ℕ, zero, suc, _+_, _-_, _*_, _/_, _≤_}
 use native.Mathlib.Omega.{arith}
 use native.Mathlib.Nat.{add-suc, add-zero}
 use lib.ListN.{length, drop, length-append}
@@ -27,8 +28,8 @@ use Rattle.log.specs.declared.Record.the-variants.{Write, Ticks, Reading}
 use Rattle.log.specs.declared.Next.{Next}
 use Rattle.log.specs.declared.Next.the-variants.{On, Off}
 use Rattle.log.proofs.Places.{opened-at, closed-at}
-use Rattle.sitting.specs.Play.{Run, byteOf, play, playAll, starting}
-use Rattle.sitting.specs.Parts.{Parted, untold, stopAt, recordAt, nextAt, ticksNow, sounding, partOf, Rest, restIn, restOf, ahead, PartAfterPart, PartsBegin, PartsEnd}
+use Rattle.sitting.specs.Play.{Run, registerIn, play, playAll, starting}
+use Rattle.sitting.specs.Parts.{Parted, untold, stopAt, recordAt, nextAt, ticksNow, sounding, logRefusal, partOf, Rest, restIn, restOf, ahead, PartAfterPart, PartsBegin, PartsEnd}
 use Rattle.sitting.specs.Run.{Outcome, runMeasured, runWith}
 use Rattle.sitting.specs.declared.parts.Heard.the-variants.{End}
 use Rattle.sitting.proofs.Runs.{all-unseen}
@@ -54,7 +55,7 @@ play-front : (w : Work) (r : Record) (p s q : List ℕ) (x : Run) → play w r (
 unfolding play
 play-front w (Write r v) p s q x = refl
 play-front w (Ticks n) p s q x = λ i. record { bench = ticks-front w n p s (x .bench) i; readings = q ++ x .readings }
-play-front w (Reading r) p s q x = λ i. record { bench = frontBench p s (x .bench); readings = append-assoc q (x .readings) (byteOf (x .bench) r ∷ []) i }
+play-front w (Reading r) p s q x = λ i. record { bench = frontBench p s (x .bench); readings = append-assoc q (x .readings) (registerIn (x .bench) r ∷ []) i }
 
 all-front : (w : Work) (rs : List Record) (p s q : List ℕ) (x : Run) → playAll w rs (front p s q x) ≡ front p s q (playAll w rs x)
 unfolding playAll
@@ -103,7 +104,7 @@ next-after (Off k) d at ram log pcm e = stop-after k d at ram log pcm
 next-after (On (Write r v) behind) d at ram log pcm e = λ z. ap (restBy d ram) (opened-at log at behind (Write r v) e)
 next-after (On (Ticks n) behind) d at ram log pcm e = λ z. ap (restBy d ram) (opened-at log at behind (Ticks n) e)
 next-after (On (Reading r) behind) d at ram log pcm e =
-    λ z. ap (restBy d ram) (opened-at log at behind (Reading r) e) ∙ ap restIn (all-front everything (recordsFrom log behind) [] [] (byteOf (benchOf d ram []) r ∷ []) (starting d ram []))
+    λ z. ap (restBy d ram) (opened-at log at behind (Reading r) e) ∙ ap restIn (all-front everything (recordsFrom log behind) [] [] (registerIn (benchOf d ram []) r ∷ []) (starting d ram []))
 
 stop-last : (k : ℕ) (d : Dsp) (at : ℕ) (ram log pcm : List ℕ) → readAt log at ≡ Off k → Last d at 0 ram log (record { told = stopAt k d at; ram = ram; pcm = pcm })
 unfolding stopAt restOf playAll play ticksOf
@@ -139,15 +140,17 @@ sound-after n d at left ram log pcm l =
 -- ---- by the tests of a part
 
 by-tests : (P : Parted → Type 0) (d : Dsp) (at left : ℕ) (ram log pcm : List ℕ)
-    → ((k : ℕ) → 0 < k → P (record { told = untold k d at left; ram = ram; pcm = pcm }))
+    → ((k : ℕ) → k ≢ 0 → P (record { told = untold k d at left; ram = ram; pcm = pcm }))
     → (left ≡ 0 → P (record { told = nextAt (readAt log at) d at; ram = ram; pcm = pcm }))
     → P (sounding (ticksNow left (length pcm)) d at left ram pcm)
     → P (partOf d at left ram log pcm)
 unfolding partOf
 by-tests P d at left ram log pcm refusal next sound =
-    tested P (length ram =? 0x10000) (λ _. tested P (fit d) (λ _. tested P (60000 <? length log) (λ _. refusal 3 (omega arith)) (λ _.
-    tested P (left =? 0) (λ e. next (eqb-true left 0 e)) (λ _. tested P (length pcm <? 4) (λ _. refusal 10 (omega arith)) (λ _. sound)))) (λ _. refusal 2 (omega arith)))
-    (λ _. refusal 1 (omega arith))
+    let owed : (k : ℕ) → suc k ≢ 0 = (λ k e. absurd (omega arith)) in
+    tested P (length ram =? 0x10000) (λ _. tested P (fit d) (λ _. tested P (logRefusal at log =? 0)
+    (λ _. tested P (left =? 0) (λ e. next (eqb-true left 0 e)) (λ _. tested P (length pcm <? 4) (λ _. refusal 10 (owed 9)) (λ _. sound)))
+    (λ e. refusal (logRefusal at log) (eqb-false (logRefusal at log) 0 e))) (λ _. refusal 2 (owed 1)))
+    (λ _. refusal 1 (owed 0))
 
 now-few : (left room : ℕ) → ticksNow left room ≤ left
 unfolding ticksNow
@@ -156,7 +159,7 @@ now-few left room = let a = least-both (room / 4) (least left 64) in let b = lea
 pub part-after-part : PartAfterPart
 part-after-part d at left ram log pcm =
     by-tests (After d at left ram log) d at left ram log pcm
-    (λ k h e. absurd (omega arith))
+    (λ k h e. absurd (h e))
     (λ z. subst (λ (l : ℕ). After d at l ram log (record { told = nextAt (readAt log at) d at; ram = ram; pcm = pcm })) (sym z) (next-after (readAt log at) d at ram log pcm refl))
     (sound-after (ticksNow left (length pcm)) d at left ram log pcm (now-few left (length pcm)))
 

@@ -1,24 +1,29 @@
--- A log that `measureOf` takes: no part of it is refused, from the first stage on.
-use mathlib.Core.List.{List, []}
-use mathlib.Core.Path.{_≡_, refl, sym, subst}
+-- A log that `measureOf` takes: no part of it is refused, from the first stage on. Of any other log the first part is.
+use mathlib.Core.Bool.{true}
+use mathlib.Core.List.{List, [], _∷_}
+use mathlib.Core.Path.{_≡_, refl, sym, ap, subst}
 use Prim.Native.Nat.{ℕ, zero, suc, _≤_, _<_}
 use native.Mathlib.Omega.{arith}
 use lib.ListN.{length, getD}
-use borrow.Author.Tests.{eq-eqb, ne-eqb, le-ltb}
+use borrow.Author.Tests.{eqb-true, eqb-false, eq-eqb, ne-eqb, le-ltb}
+use Rattle.numbers.specs.Choice.{_=?_}
+use Rattle.numbers.proofs.Choice.{tested, chosen}
 use Rattle.dsp.specs.Machine.{together}
+use Rattle.dsp.specs.Fit.{fit}
 use Rattle.dsp.specs.Registers.{writeAt}
 use Rattle.dsp.specs.Tick.{everything, Bench, benchOf, ticksOf}
 use Rattle.dsp.specs.declared.registers.Dsp.{Dsp}
-use Rattle.dsp.proofs.Fits.{facts-fit}
-use Rattle.dsp.proofs.Ticks.{BenchFit, bench-fit, fit-kept-ticks, fit-kept-bench-write}
+use Rattle.dsp.proofs.Fits.{facts-fit, fit-facts}
+use Rattle.dsp.proofs.Ticks.{BenchFit, bench-fit, fit-bench, fit-kept-ticks, fit-kept-bench-write}
 use Rattle.log.specs.Log.{readAt}
+use Rattle.log.specs.Measure.{measureOf}
 use Rattle.log.specs.declared.Record.the-variants.{Write, Ticks, Reading}
 use Rattle.log.specs.declared.Measured.{Measured}
 use Rattle.log.specs.declared.Next.{Next}
 use Rattle.log.specs.declared.Next.the-variants.{On, Off}
 use Rattle.log.proofs.Places.{moves, ByteValue, byte-value}
-use Rattle.log.proofs.Turn.{Here, Taken, here-first, turned, ended}
-use Rattle.sitting.specs.Parts.{Parted, stopAt, recordAt, nextAt, ticksNow, sounding, partOf}
+use Rattle.log.proofs.Turn.{Here, Taken, taken, here-first, turned, ended}
+use Rattle.sitting.specs.Parts.{Parted, stopAt, recordAt, nextAt, ticksNow, sounding, logRefusal, partOf, furtherParts, Roomy, PartsChecked}
 
 -- a stage that parts come to: its place is reached by the log's records, the record is fit, RAM has its length
 pub record Reached (log : List ℕ) (d : Dsp) (at : ℕ) (ram : List ℕ) : Type 0 where
@@ -64,11 +69,52 @@ module _ (log : List ℕ) (m : Measured) (t : Taken log m) (bytes : (i : ℕ) �
       let b = ticksOf everything n (benchOf d ram []) in
       record { taken = refl; next = record { ticks = r .ticks; readings = r .readings; here = r .here; fit = again b (fit-kept-ticks everything n (benchOf d ram []) (r .fit)) } }
 
-  -- a part with room for a sample
+  log-taken : logRefusal at log ≡ 0
+  unfolding logRefusal measureOf
+  log-taken = chosen (λ (k : ℕ). k ≡ 0) (at =? 0) (rw (le-ltb _ _ (t .short)) (ap (λ (x : Measured). x .refusal) (t .all))) (rw (le-ltb _ _ (t .short)) refl)
+
+  -- a part at a record, or one with room for a sample
+  record-unrefused : Unrefused log (partOf d at 0 ram log pcm)
+  unfolding partOf
+  record-unrefused =
+      rw (eq-eqb _ _ (r .fit .ram), facts-fit d (bench-fit _ (r .fit)), eq-eqb _ _ log-taken) (next-unrefused (readAt log at) refl (byte-value log at bytes))
+
   pub part-unrefused : (left : ℕ) → 4 ≤ length pcm → Unrefused log (partOf d at left ram log pcm)
   unfolding partOf
-  part-unrefused zero h =
-      rw (eq-eqb _ _ (r .fit .ram), facts-fit d (bench-fit _ (r .fit)), le-ltb _ _ (t .short)) (next-unrefused (readAt log at) refl (byte-value log at bytes))
+  part-unrefused zero h = record-unrefused
   part-unrefused (suc left) h =
-      rw (eq-eqb _ _ (r .fit .ram), facts-fit d (bench-fit _ (r .fit)), le-ltb _ _ (t .short), ne-eqb (suc left) 0 (omega arith), le-ltb (length pcm) 4 h)
+      rw (eq-eqb _ _ (r .fit .ram), facts-fit d (bench-fit _ (r .fit)), eq-eqb _ _ log-taken, ne-eqb (suc left) 0 (omega arith), le-ltb (length pcm) 4 h)
       (sound-unrefused (ticksNow (suc left) (length pcm)) (suc left))
+
+-- ---- a part that is not refused has passed its tests
+
+record Admitted (d : Dsp) (at : ℕ) (ram log : List ℕ) : Type 0 where
+  ram-is : length ram ≡ 0x10000
+  fit-is : fit d ≡ true
+  log-is : logRefusal at log ≡ 0
+
+admitted : (d : Dsp) (at left : ℕ) (ram log pcm : List ℕ) → partOf d at left ram log pcm .told .refusal ≡ 0 → Admitted d at ram log
+unfolding partOf
+admitted d at left ram log pcm =
+    let P : Parted → Type 0 = (λ p. p .told .refusal ≡ 0 → Admitted d at ram log) in
+    tested P (length ram =? 0x10000) (λ l. tested P (fit d) (λ f. tested P (logRefusal at log =? 0)
+    (λ k e. record { ram-is = eqb-true _ _ l; fit-is = f; log-is = eqb-true _ _ k })
+    (λ k e. absurd (eqb-false (logRefusal at log) 0 k e))) (λ _ e. absurd (omega arith))) (λ _ e. absurd (omega arith))
+
+-- part after part
+parts-unrefused : (log : List ℕ) (m : Measured) → Taken log m → ((i : ℕ) → getD log i 0 < 256) → (pcms : List (List ℕ)) → Roomy pcms → (p : Parted) → Unrefused log p
+    → furtherParts p log pcms .told .refusal ≡ 0
+unfolding furtherParts
+parts-unrefused log m t bytes [] h p u = u .taken
+parts-unrefused log m t bytes (pcm ∷ pcms) h p u =
+    parts-unrefused log m t bytes pcms (h .1) _ (part-unrefused log m t bytes (p .told .dsp) (p .told .at) (p .ram) pcm (u .next) (p .told .left) (h .0))
+
+pub parts-checked : PartsChecked
+unfolding logRefusal
+parts-checked d ram log pcm typed e =
+    let b = admitted d 0 0 ram log pcm e in
+    let z : measureOf log .refusal ≡ 0 = b .log-is in
+    let t = taken log (measureOf log) refl z in
+    let f = fit-bench d ram [] [] [] (b .ram-is) (typed .0) (typed .1) (typed .2) (fit-facts d (b .fit-is)) in
+    let u = record-unrefused log (measureOf log) t (typed .3) d 0 ram pcm (reached-first log d ram f) in
+    (z, λ pcms h. parts-unrefused log (measureOf log) t (typed .3) pcms h (partOf d 0 0 ram log pcm) u)

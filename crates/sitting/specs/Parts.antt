@@ -1,7 +1,7 @@
 -- A run in parts: each works one record of the log, or some ticks of a TK record.
 use mathlib.Core.List.{List, [], _∷_, _++_}
 use mathlib.Core.Path.{_≡_}
-use Prim.Native.Nat.{ℕ, _+_, _-_, _*_, _/_, _≤_, _<_}
+use Prim.Native.Nat.{ℕ, _-_, _*_, _/_, _≤_, _<_}
 use lib.ListN.{length, getD, take, drop}
 use Rattle.numbers.specs.Choice.{if_then_else_, _<?_, _=?_}
 use Rattle.numbers.specs.Unsigned.{least}
@@ -11,6 +11,7 @@ use Rattle.dsp.specs.Registers.{writeAt}
 use Rattle.dsp.specs.Tick.{everything, Bench, benchOf, ticksOf}
 use Rattle.dsp.specs.declared.registers.Dsp.{Dsp}
 use Rattle.log.specs.Log.{readAt, recordsFrom}
+use Rattle.log.specs.Measure.{measureOf}
 use Rattle.log.specs.declared.Record.{Record}
 use Rattle.log.specs.declared.Record.the-variants.{Write, Ticks, Reading}
 use Rattle.log.specs.declared.Next.{Next}
@@ -79,15 +80,24 @@ sounding n d at left ram pcm = soundingFrom n at left pcm (ticksOf everything n 
 
 -- ---- a part
 
--- 1, 2, 3; then 4 to 9 of what stands in the log, or 10 for a buffer without room for a tick
+-- the log's refusal: at place 0, where a run begins, the whole log's ("the whole log is checked before the first tick"). A stage behind
+-- it comes of a log that was checked; of another that is handed in the length is looked at, and then what stands at the place
+unfoldable pub logRefusal : ℕ → List ℕ → ℕ
+logRefusal at log =
+    if at =? 0 then measureOf log .refusal else
+    if 60000 <? length log then 3 else
+    0
+
+-- 1, 2, then the log's; with no ticks left 4 to 9 of what stands at the place, else 10 for a buffer without room for a tick
 unfoldable pub partOf : Dsp → ℕ → ℕ → List ℕ → List ℕ → List ℕ → Parted
 partOf d at left ram log pcm =
     if length ram =? 0x10000 then
     (if fit d then
-    (if 60000 <? length log then unparted 3 d at left ram pcm else
-    if left =? 0 then record { told = nextAt (readAt log at) d at; ram = ram; pcm = pcm } else
+    (if logRefusal at log =? 0 then
+    (if left =? 0 then record { told = nextAt (readAt log at) d at; ram = ram; pcm = pcm } else
     if length pcm <? 4 then unparted 10 d at left ram pcm else
     sounding (ticksNow left (length pcm)) d at left ram pcm)
+    else unparted (logRefusal at log) d at left ram pcm)
     else unparted 2 d at left ram pcm)
     else unparted 1 d at left ram pcm
 
@@ -151,3 +161,26 @@ abbrev pub PartsEnd : Type 0
 PartsEnd =
     (d : Dsp) (at left : ℕ) (ram log pcm : List ℕ) → partOf d at left ram log pcm .told .heard ≡ End
     → restOf d at left ram log ≡ record { pcm = []; readings = []; dsp = d; ram = ram }
+
+-- ---- that a stage is one of a checked log
+
+-- what the types say: the arrays of a record have their lengths, and a log is bytes
+abbrev pub Typed : Dsp → List ℕ → Type 0
+Typed d log = (length (d .registers) ≡ 128) × (length (d .voices) ≡ 8) × (length (d .«kon_delay») ≡ 8) × ((i : ℕ) → getD log i 0 < 256)
+
+-- what parts leave, each over a buffer of its own, after a part that left p
+unfoldable pub furtherParts : Parted → List ℕ → List (List ℕ) → Parted
+furtherParts p log [] = p
+furtherParts p log (pcm ∷ pcms) = furtherParts (partOf (p .told .dsp) (p .told .at) (p .told .left) (p .ram) log pcm) log pcms
+
+-- buffers with room for a sample
+abbrev pub Roomy : List (List ℕ) → Type 0
+Roomy [] = Unit {0}
+Roomy (pcm ∷ pcms) = (4 ≤ length pcm) × Roomy pcms
+
+-- a first part that is not refused is of a log that is refused by nothing, and then no part after it is refused
+abbrev pub PartsChecked : Type 0
+PartsChecked =
+    (d : Dsp) (ram log pcm : List ℕ) → Typed d log → partOf d 0 0 ram log pcm .told .refusal ≡ 0
+    → (measureOf log .refusal ≡ 0)
+    × ((pcms : List (List ℕ)) → Roomy pcms → furtherParts (partOf d 0 0 ram log pcm) log pcms .told .refusal ≡ 0)

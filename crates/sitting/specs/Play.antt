@@ -14,14 +14,14 @@ pub record Run : Type 0 where
   pub readings : List ℕ
 
 -- a register's byte, as it stands
-abbrev pub byteOf : Bench → ℕ → ℕ
-byteOf b r = getD (b .parts .registers) r 0
+abbrev pub registerIn : Bench → ℕ → ℕ
+registerIn b r = getD (b .parts .registers) r 0
 
 -- one record; w: the lanes that a tick works
 unfoldable pub play : Work → Record → Run → Run
 play w (Write r x) s = record { bench = benchWrite r x (s .bench); readings = s .readings }
 play w (Ticks n) s = record { bench = ticksOf w n (s .bench); readings = s .readings }
-play w (Reading r) s = record { bench = s .bench; readings = s .readings ++ (byteOf (s .bench) r ∷ []) }
+play w (Reading r) s = record { bench = s .bench; readings = s .readings ++ (registerIn (s .bench) r ∷ []) }
 
 unfoldable pub playAll : Work → List Record → Run → Run
 playAll w [] s = s

@@ -26,8 +26,8 @@ pub record Outcome : Type 0 where
   pub readings : List ℕ
 
 -- "a refusal answers its number, the record given and zeros elsewhere; RAM, sheet and outputs keep their bytes"
-abbrev pub refusedBy : ℕ → Dsp → List ℕ → List ℕ → List ℕ → List ℕ → Outcome
-refusedBy k d ram pcm sheet readings =
+abbrev pub unrun : ℕ → Dsp → List ℕ → List ℕ → List ℕ → List ℕ → Outcome
+unrun k d ram pcm sheet readings =
     record { refusal = k; dsp = d; ticks = 0; count = 0; ram = ram; pcm = pcm; sheet = sheet; readings = readings }
 
 abbrev pub ran : Measured → Run → Outcome
@@ -49,15 +49,15 @@ runMeasured w m d ram log pcm sheet readings =
     if m .refusal =? 0 then
     (if (length pcm =? m .ticks * 4) && (length sheet =? m .ticks * 36) && (length readings =? m .readings) then
     ran m (playAll w (decode log .records) (starting d ram sheet))
-    else refusedBy 10 d ram pcm sheet readings)
-    else refusedBy (m .refusal) d ram pcm sheet readings
+    else unrun 10 d ram pcm sheet readings)
+    else unrun (m .refusal) d ram pcm sheet readings
 
 -- 1: the RAM slice isn't 65,536 bytes; 2: the record is unfit; 3 to 9: the log's; then 10
 unfoldable pub runWith : Work → Dsp → List ℕ → List ℕ → List ℕ → List ℕ → List ℕ → Outcome
 runWith w d ram log pcm sheet readings =
     if length ram =? 0x10000 then
-    (if fit d then runMeasured w (measureOf log) d ram log pcm sheet readings else refusedBy 2 d ram pcm sheet readings)
-    else refusedBy 1 d ram pcm sheet readings
+    (if fit d then runMeasured w (measureOf log) d ram log pcm sheet readings else unrun 2 d ram pcm sheet readings)
+    else unrun 1 d ram pcm sheet readings
 
 -- a run works every lane, and so does not see what stood in the sheet (`all-unseen`)
 abbrev pub runOf : Dsp → List ℕ → List ℕ → List ℕ → List ℕ → List ℕ → Outcome

@@ -5,26 +5,25 @@ ghost use Prim.Native.Nat.{_*_, _≤_};
 ghost use lib.ListN.{length};
 ghost use Rattle.dsp.specs.Fit.{Fit};
 ghost use Rattle.log.specs.Log.{readAt, Known};
-ghost use Rattle.sitting.specs.Parts.{Parted, toldBy, telling, untold, stopAt, recordAt, nextAt, ticksNow, sounding, partOf, Goes};
+ghost use Rattle.sitting.specs.Parts.{Parted, toldBy, telling, untold, stopAt, recordAt, nextAt, ticksNow, sounding, logRefusal, partOf, Goes};
 use crate::running::everything;
 use dsp::Dsp;
+use dsp::RAM_SIZE;
+use log::LOG_MOST;
 use log::Next;
 use log::Record;
+use log::measure;
 use log::read;
-
-const RAM_SIZE: usize = 0x10000;
-
-const LOG_MOST: usize = 60000;
 
 // So many ticks go in one call of the chip at most, as a sheet of so many rows is kept aside.
 const TICKS_AT_ONCE: u16 = 64;
 
 // Where a run in parts stands: the record, the place in the log, and the ticks of the TK record before it that are
-// still to come.
+// still to come. These two are set here alone: a stage behind the front of a log comes of a log that was checked.
 pub struct Stage {
     pub dsp: Dsp,
-    pub at: usize,
-    pub left: u16,
+    at: usize,
+    left: u16,
 }
 
 // What a part puts out: nothing, so many ticks in the PCM buffer, or a reading; or the log has ended.
@@ -155,8 +154,22 @@ fn told(dsp: Dsp, at: usize, left: u16, heard: Heard) -> Part
     }
 }
 
-// One part. Refuses 1, 2, 3; then, with no ticks left, what stands in the log by 4 to 9, and with some, a buffer without
-// room for one by 10. That a log has no more than 32,000 ticks in all is for `measure` to say, before the first part.
+// The log's refusal: the whole log's where a run begins, and behind that its length's.
+fn log_refusal(at: usize, log: &[u8]) -> u8
+    ensures { λ r. ⌜ r ≡ logRefusal at (now (log .entry)) ⌝ }
+{
+    if at == 0 {
+        let m = measure(log);
+        return m.refusal;
+    }
+    if log.len() > LOG_MOST {
+        return 3;
+    }
+    0
+}
+
+// One part. Refuses 1, 2, then by 3 to 9 the log, all of it before the first tick; with ticks left, a buffer without room for one
+// by 10. Behind the front of a log 3 to 9 are for a caller who hands in another log than the one that was checked.
 pub fn run_part(stage: Stage, ram: &mut [u8], log: &[u8], pcm: &mut [u8]) -> Part
     ensures { λ r. ⌜ (_≡_ {A = Parted} (record { told = toldBy r; ram = now (ram .exit); pcm = now (pcm .exit) }) (partOf (stage .dsp) (stage .at) (stage .left) (now (ram .entry)) (now (log .entry)) (now (pcm .entry)))) × Goes (stage .at) (stage .left) (length (now (log .entry))) (toldBy r) ⌝ }
 {
@@ -167,8 +180,9 @@ pub fn run_part(stage: Stage, ram: &mut [u8], log: &[u8], pcm: &mut [u8]) -> Par
     if !d.is_fit() {
         return stage.refused(2);
     }
-    if log.len() > LOG_MOST {
-        return stage.refused(3);
+    let refusal = log_refusal(stage.at, log);
+    if refusal != 0 {
+        return stage.refused(refusal);
     }
     if stage.left == 0 {
         return stage.at_record(log);

@@ -8,7 +8,7 @@ ghost use Rattle.dsp.specs.Machine.{apart};
 ghost use Rattle.dsp.specs.Registers.{writeAt};
 ghost use Rattle.dsp.specs.Tick.{ticksOf};
 ghost use Rattle.log.specs.Log.{Known, decode};
-ghost use Rattle.log.specs.Measure.{ticksOf as ticksIn, readingsOf as readingsIn};
+ghost use Rattle.log.specs.Measure.{ticksIn, readingsIn};
 ghost use Rattle.sitting.specs.Play.{Run, play, playAll, starting};
 ghost use Rattle.sitting.specs.Stand.{benchNow, standing, Ready};
 use dsp::Dsp;

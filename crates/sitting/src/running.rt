@@ -8,11 +8,10 @@ ghost use Rattle.dsp.specs.Machine.{newDsp};
 ghost use Rattle.sitting.specs.Run.{Outcome, runWith, runOf};
 use crate::play::play_all;
 use dsp::Dsp;
+use dsp::RAM_SIZE;
 use dsp::Work;
 use log::Measured;
 use log::measure;
-
-const RAM_SIZE: usize = 0x10000;
 
 // 0 or the refusal, the record, and how many ticks and readings were put out.
 pub struct Ran {

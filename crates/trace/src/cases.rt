@@ -1,5 +1,4 @@
 // The file of cases: the number of a RAM image, the log's length (16 bits, low byte first), the log; and so on.
-ghost use Prim.Native.Nat.{_<_};
 use crate::ticks::run_ticks;
 use dsp::Dsp;
 use report::cases::image;
@@ -37,9 +36,7 @@ fn next(fd: i32, number: u64) -> bool {
     with_log(fd, number, ram)
 }
 
-fn with_log(fd: i32, number: u64, ram: u8) -> bool
-    requires { ⌜ ram < 10 ⌝ }
-{
+fn with_log(fd: i32, number: u64, ram: u8) -> bool {
     let mut log = io::large_buffer();
     let found = stored_log(fd, &mut log);
     if found.failed {
@@ -57,9 +54,7 @@ fn stops() -> bool {
 }
 
 // Whole by `run_new`; then, where that refuses nothing, tick by tick on the image as it was.
-fn case(number: u8, log: &[u8])
-    requires { ⌜ number < 10 ⌝ }
-{
+fn case(number: u8, log: &[u8]) {
     let mut ram = [0u8; 65537];
     let n = image(number, &mut ram);
     let mut again = ram;

@@ -1,7 +1,7 @@
 -- The header's sizes are those of RIFF's chunks, and no number of it is cut.
 use mathlib.Core.List.{_++_}
 use mathlib.Core.Path.{_≡_}
-use Prim.Native.Nat.{zero, suc, _+_, _/_, _^_, _<_}
+use Prim.Native.Nat.{zero, suc, _/_, _^_, _<_}
 use native.Mathlib.Nat.{pow-suc, pow-zero, div-lt-iff-lt-mul}
 use native.Mathlib.Omega.{arith}
 use lib.Dec.{lit<}

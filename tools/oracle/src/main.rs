@@ -12,6 +12,7 @@ mod chip;
 mod leaves;
 mod log;
 mod make;
+mod page;
 mod random;
 mod registers;
 mod rework;
@@ -22,7 +23,7 @@ mod wav;
 mod wavs;
 
 const USAGE: &str = "usage: oracle nibble | block | interpolate | envelope | noise | selfcheck \
-    | run LOG RAM [PCM_OUT [RAM_OUT]] | make KIND SEED LOG_OUT RAM_OUT \
+    | differs | differs shorter NAME | run LOG RAM [PCM_OUT [RAM_OUT]] | make KIND SEED LOG_OUT RAM_OUT \
     | trace CASES FOLDER | cases KIND COUNT SEED OUTFOLDER \
     | rework PAIRS FOLDER | pairs KIND COUNT SEED OUTFOLDER \
     | wavs REELS FOLDER | reels KIND COUNT SEED OUTFOLDER";
@@ -50,6 +51,8 @@ fn command(words: &[&str]) -> Result<(), String> {
             selfcheck::all();
             print(b"selfcheck: P1 to P11 hold\n")
         }
+        ["differs"] => print(page::report(page::PAGE).as_bytes()),
+        ["differs", "shorter", name] => print(page::report_shorter(page::PAGE, name).as_bytes()),
         ["run", log, ram, outputs @ ..] if outputs.len() <= 2 => run(log, ram, outputs),
         ["make", kind, seed, log, ram] => make(kind, seed, log, ram),
         ["trace", cases, folder] => trace(cases, folder),

@@ -11,7 +11,7 @@ use Rattle.boltwillow.proofs.bw_rework.Tie as tie
 few : (c : tie.After-struct-known3) → c .before .before .before .before .before .before .before .before .before .rework-new .result .count ≤ 8
 few c =
     let a = c .before .before .before .before .before .before .before .before .before .before .before .before .before .before .before .before .before .before .before .args in
-    few-new (a .named) (a .ram .now) (a .old-log .now) (a .new-log .now) (a .sheet .now) (a .pcm .now) (a .readings .now) (c .before .before .before .before .before .before .before .before .before .rework-new .ensures)
+    few-new (a .named) (a .ram .now) (a .old-log .now) (a .new-log .now) (a .pcm .now) (a .sheet .now) (a .readings .now) (c .before .before .before .before .before .before .before .before .before .rework-new .ensures)
 
 pub bw-rework-spec : {M : Type 1} → statement M
 bw-rework-spec =

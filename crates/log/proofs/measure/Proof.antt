@@ -4,7 +4,7 @@ use Prim.Native.Nat.{_+_, _-_, _<_}
 use native.Mathlib.Omega.{arith}
 use lib.ListN.{length}
 use borrow.Author.Tests.{le-ltb, lt-ltb}
-use Rattle.log.specs.Measure.{measureOf, ticksOf}
+use Rattle.log.specs.Measure.{measureOf, ticksIn}
 use Rattle.log.proofs.Turn.{Here, here-first, stop, over, turn}
 use Rattle.log.proofs.measure.Statement.{statement}
 use Rattle.log.proofs.measure.Tie as tie
@@ -31,7 +31,7 @@ add-ticks c =
 returns-3 : tie.Need-returns-3 Inv-loop μ-loop
 unfolding measureOf
 returns-3 c =
-    let h : 32000 < c .before .before .before .before .before .before .before .loop .ticks + ticksOf (c .before .before .before .before .found .given .0 .0) = omega (arith, c .before .if2 .taken, c .before .before .ticks-of .ensures .0) in
+    let h : 32000 < c .before .before .before .before .before .before .before .loop .ticks + ticksIn (c .before .before .before .before .found .given .0 .0) = omega (arith, c .before .if2 .taken, c .before .before .ticks-of .ensures .0) in
     rw (c .refused2 .ensures, le-ltb _ _ (c .before .before .before .before .before .before .before .before .if1 .left)) (over (c .before .before .before .before .before .before .before .loop .inv) (c .before .before .before .before .before .before .read .ensures .0) (c .before .before .before .before .found .given .1) h)
 
 add-readings : tie.Need-add-readings Inv-loop μ-loop

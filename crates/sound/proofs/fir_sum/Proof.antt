@@ -8,9 +8,9 @@ use lib.IntN.{_+ℤ_}
 use lib.Signed.{mag}
 use mir.Syntax.{w32}
 use mir.Val.{toZ, ofZ}
-use Rattle.numbers.proofs.Range.{Q, fits, reads, quotes, q-by, q-add, q-read, q-local, q-elem16, q-mag}
+use Rattle.numbers.proofs.Range.{Q, fits, reads, q-add, q-read, q-local}
 use Rattle.sound.specs.Sound.{firSum}
-use Rattle.sound.proofs.Filter.{sum-grows, q-sum}
+use Rattle.sound.proofs.Filter.{q-tapped, sum-grows, q-sum}
 use Rattle.sound.proofs.fir_sum.Statement.{statement}
 use Rattle.sound.proofs.fir_sum.Tie as tie
 
@@ -25,7 +25,9 @@ unfolding firSum
 loop-holds c = (search needs, search needs, refl)
 
 abbrev q-tap : (c : tie.After-fir-tap Inv-loop μ-loop) → Q (c .fir-tap .result)
-q-tap c = search (q-by, quotes, q-elem16, q-mag 0x80) depth 9
+q-tap c =
+    let s = c .before .before .before .before in
+    q-tapped (s .before .args .t1) (s .before .args .t2) (s .loop .i) (c .fir-tap .ensures) (c .before .before .fir-tap-arg .given) (c .before .fir-tap-arg2 .given)
 
 abbrev q-next : (c : tie.After-fir-tap Inv-loop μ-loop) → Q (toZ w32 (c .before .before .before .before .loop .sum) +ℤ toZ w32 (ofZ w32 (c .fir-tap .result)))
 q-next c =

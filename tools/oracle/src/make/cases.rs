@@ -49,7 +49,7 @@ fn nothing() -> Made<Case> {
 
 fn stored(random: &mut Random, count: usize) -> Made<Case> {
     let mut made = with_random(directed::all(), random, count, IMAGES_STORED, whole);
-    made.rams.extend(directed::wrong_rams());
+    made.rams.extend(directed::later_rams());
     made
 }
 
@@ -144,7 +144,10 @@ mod tests {
         let made = cases("directed", 3, 1).unwrap();
         let named = made.names.lines().count();
         assert_eq!(made.cases.len(), named + 3);
-        assert_eq!(made.rams.len(), 1 + IMAGES_STORED + 2);
+        assert_eq!(
+            made.rams.len(),
+            1 + IMAGES_STORED + directed::later_rams().len()
+        );
         let images: Vec<_> = made.cases[named..].iter().map(|case| case.ram).collect();
         assert!(images.iter().all(|image| [1, 2].contains(image)));
     }

@@ -1,7 +1,8 @@
 //! Cases by name, at least one for each rule of document 01 under voice.rs
-//! and mod.rs, and for each refusal that a run from `new` can meet. The
-//! tables cite the rule above each row.
+//! and mod.rs, and for each refusal that a run from `new` can meet; then the
+//! logs of docs/DIFFERENCES.md. The tables cite the rule above each row.
 
+mod differs;
 mod echo;
 pub mod image;
 mod keys;
@@ -18,9 +19,14 @@ use script::Script;
 /// What a case is called, and what it does from `new`.
 pub type Named = (&'static str, fn(&mut Script));
 
-/// All of them run on the one image, but for those whose image is no RAM.
+/// All of them run on the one image, but for those whose image is no RAM and
+/// those of the page, which names theirs.
 pub fn all() -> Made<Case> {
-    let named: Vec<_> = played().into_iter().chain(refused::cases()).collect();
+    let named: Vec<_> = played()
+        .into_iter()
+        .chain(refused::cases())
+        .chain(differs::cases())
+        .collect();
     let line = |(number, (name, _)): (usize, &(&str, Case))| format!("{number} {name}\n");
     Made {
         names: (1..).zip(&named).map(line).collect(),
@@ -29,9 +35,10 @@ pub fn all() -> Made<Case> {
     }
 }
 
-/// Images that are refused. They come after all others.
-pub fn wrong_rams() -> [Vec<u8>; 2] {
-    refused::rams()
+/// Images that are refused, then those of the page. They come after those of
+/// the random cases, so that these keep their numbers.
+pub fn later_rams() -> Vec<Vec<u8>> {
+    refused::rams().into_iter().chain(differs::rams()).collect()
 }
 
 fn played() -> Vec<(&'static str, Case)> {

@@ -23,8 +23,9 @@ abbrev μ-loop : tie.MeasureT-loop
 loop-again : tie.Need-loop-again Inv-loop μ-loop
 loop-again c =
     let l = c .before .before .before .before .loop in
-    let e = two-more _ _ _ _ _ _ _ _ _ _ _ _ (search needs) (c .before .before .before .before .before .ram-read8 .ensures) (c .before .before .ram-read82 .ensures) (l .inv .1) in
-    (search needs, e (landed w16 (c .before .sample-of .ok) ∙ c .before .sample-of .ensures) (landed w16 (c .sample-of2 .ok) ∙ c .sample-of2 .ensures))
+    let e₁ = landed w16 (c .before .sample-of .ok) ∙ c .before .sample-of .ensures in
+    let e₂ = landed w16 (c .sample-of2 .ok) ∙ c .sample-of2 .ensures in
+    (search needs, two-more _ _ _ _ _ _ _ _ _ _ _ _ (search needs) (c .before .before .before .before .before .ram-read8 .ensures) (c .before .before .ram-read82 .ensures) (l .inv .1) e₁ e₂)
 
 returns : tie.Need-returns Inv-loop μ-loop
 returns c =

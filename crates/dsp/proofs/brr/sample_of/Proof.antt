@@ -19,7 +19,8 @@ returns c =
     let n = toZ-pos w8 (a .nibble) (omega arith) in
     let e₁ = toZ-ofZ w16 (a .prev1) (c .before .fits .prev1) in
     let e₂ = toZ-ofZ w16 (a .prev2) (c .before .fits .prev2) in
-    landed w16 (c .decode-brr-nibble .ok) ∙ c .decode-brr-nibble .ensures ∙ (λ i. decodeNibble (n i) (a .header / 16) (a .header / 4 % 4) (e₁ i) (e₂ i))
+    let e = c .decode-brr-nibble .ensures in
+    landed w16 (c .decode-brr-nibble .ok) ∙ _∙_ {b = e 1} e (λ i. decodeNibble (n i) (a .header / 16) (a .header / 4 % 4) (e₁ i) (e₂ i))
 
 pub sample-of-spec : {M : Type 1} → statement M
 sample-of-spec = tie.close (tie.spec (λ c. search needs) (λ c κs. search needs) returns)

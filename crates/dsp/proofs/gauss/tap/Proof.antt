@@ -14,10 +14,6 @@ cast-result : tie.Need-cast-result
 cast-result c =
     let e = entry (c .before .args .table .now) (c .before .args .i) (c .before .pre .0) in fits (search (q-by, q-weight, quotes) depth 20) tt
 
-cast-result-2 : tie.Need-cast-result-2
-cast-result-2 c =
-    let e = entry (c .before .args .table .now) (c .before .args .i) (c .before .pre .0) in fits (search (q-by, q-weight, quotes) depth 20) tt
-
 mul-result-2 : tie.Need-mul-result-2
 mul-result-2 c =
     let e = entry (c .before .args .table .now) (c .before .args .i) (c .before .pre .0) in fits (search (q-by, q-weight, quotes) depth 20) tt
@@ -33,6 +29,6 @@ tap-spec =
     (λ c. search needs)
     shared-slice-copy-out-result
     cast-result
-    cast-result-2
+    (λ c. fits (search quotes) tt)
     mul-result-2
     returns)

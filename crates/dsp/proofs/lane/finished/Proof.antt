@@ -1,13 +1,14 @@
 -- The callees, with the read-backs removed.
 use borrow.Author.Needs.{needs}
+use native.Mathlib.Nat.{mod-eq-of-lt}
 use mathlib.Core.Path.{_≡_, _∙_, ap}
 use Prim.Native.Nat.{_<_}
 use lib.Signed.{mag}
 use mir.Syntax.{w16}
 use Rattle.numbers.proofs.Range.{landed}
-use Rattle.dsp.specs.Mix.{bit, scaledOutput}
-use Rattle.dsp.specs.Lane.{noised, Waiting, cellFrom, cellAfter}
-use Rattle.dsp.specs.declared.play.Play.{Play}
+use Rattle.numbers.specs.Bits.{bit}
+use Rattle.dsp.specs.Mix.{scaledOutput}
+use Rattle.dsp.specs.Lane.{noised, Waiting, cellAfter}
 use Rattle.dsp.proofs.lane.finished.Statement.{statement}
 use Rattle.dsp.proofs.lane.finished.Tie as tie
 
@@ -20,8 +21,10 @@ sample-small c = c .struct-told2 .given .1 .1 .1 .1 .1 .1 .1 .1 .1 .0 .1
 
 is-noised : (c : tie.After-noised) → c .noised .result ≡ noised (bit (c .before .before .before .before .args .c .non) (c .before .before .before .before .args .j)) (c .before .before .before .before .args .c .noise) (c .before .before .before .before .args .h .play)
 is-noised c =
-    let a = c .before .before .before .before .args in
-    c .noised .ensures ∙ (λ i. noised (c .before .before .bit .ensures i) (landed w16 {z = a .c .noise} (noise-small (c .before)) i) (a .h .play))
+    let s = c .before .before .before .before in
+    let a = s .args in
+    let non = rw (mod-eq-of-lt (s .pre .0)) at (c .before .before .bit .ensures) in
+    c .noised .ensures ∙ (λ i. noised (non i) (landed w16 {z = a .c .noise} (noise-small (c .before)) i) (a .h .play))
 
 scaled-output-requires : tie.Need-scaled-output-requires
 unfolding noised
@@ -35,8 +38,7 @@ returns c =
     let w : Waiting = record { play = a .h .play; samples = a .samples; delay = a .h .delay; envx = a .h .envx } in
     let e = landed w16 {z = n .«current_sample»} (sample-small (c .before .before)) in
     let o = landed w16 (c .before .scaled-output .ok) ∙ c .before .scaled-output .ensures ∙ ap (scaledOutput (n .envelope .phase) (n .envelope .level)) e in
-    (λ i. record { voice = c .with-play .ensures i; delay = a .h .delay; out = o i; envx = a .h .envx; endx = n .endx })
-    ∙ ap (λ (p : Play). cellFrom (a .v) p w) (is-noised (c .before .before .before .before))
+    rw (← is-noised (c .before .before .before .before)) (λ i. record { voice = c .with-play .ensures i; delay = a .h .delay; out = o i; envx = a .h .envx; endx = n .endx })
 
 pub finished-spec : {M : Type 1} → statement M
 finished-spec =

@@ -1,5 +1,6 @@
 -- The callees, with the read-backs removed.
 use borrow.Author.Needs.{needs}
+use native.Mathlib.Nat.{mod-eq-of-lt}
 use mathlib.Core.Path.{_∙_, ap}
 use mir.Syntax.{w8, w16}
 use Rattle.numbers.specs.Choice.{if_then_else_}
@@ -13,15 +14,14 @@ use Rattle.dsp.proofs.lane.lane.Tie as tie
 put-slot-requires : tie.Need-put-slot-requires
 put-slot-requires c κs = c .before .before .before .before .before .before .before .before .before .before .before .before .before .before .before .pre .7
 
-bit-requires : tie.Need-bit-requires
-bit-requires c κs = c .before .before .before .before .before .before .before .before .before .before .before .before .before .before .before .before .before .before .before .pre .4
-
 same-length : tie.Need-same-length
 same-length c = c .before .before .before .before .before .before .before .before .before .before .before .before .before .put-bytes .kept .0
 
 returns : tie.Need-returns
 unfolding turned
-returns c = let a = c .before .before .before .before .before .before .before .before .before .before .before .before .before .before .before .before .before .before .before .before .before .before .before .before .args in
+returns c = let s = c .before .before .before .before .before .before .before .before .before .before .before .before .before .before .before .before .before .before .before .before .before .before .before .before in
+    let a = s .args in
+    let eon = rw (mod-eq-of-lt (s .pre .4)) at (c .before .before .before .before .bit .ensures) in
     let x = c .before .before .before .before .before .before .before .before .before .before .before .before .before .before .before .before .cell .result in
     let o = landed w16 {z = x .out} (c .before .before .before .before .before .before .before .before .before .before .before .before .before .before .struct-told2 .given .1 .1 .0 .1) in
     let l = landed w8 {z = x .voice .«left_vol»} (c .before .before .struct-told5 .given .0 .1) in
@@ -30,7 +30,7 @@ returns c = let a = c .before .before .before .before .before .before .before .b
     (λ i. record {
       voice = x .voice;
       delay = x .delay;
-      acc = (c .added .ensures ∙ (λ k. added (c .before .before .before .before .bit .ensures k) (o k) (l k) (r k) (a .acc))) i;
+      acc = (c .added .ensures ∙ (λ k. added (eon k) (o k) (l k) (r k) (a .acc))) i;
       bytes = (c .before .before .before .before .before .before .before .before .before .before .before .before .before .put-bytes .ensures ∙ (λ k. putBytes (a .j) (x .envx) (o k) (x .endx) (a .bytes .now))) i;
       slot = (c .before .before .before .before .before .before .before .before .put-slot .ensures ∙ (λ k. if a .worked then laneBytes (o k) (x .envx) (x .endx) else a .slot .now)) i;
     })
@@ -44,7 +44,7 @@ lane-spec =
     (λ c κs. search needs)
     (λ c κs. search needs)
     put-slot-requires
-    bit-requires
+    (λ c κs. tt)
     (λ c κs. search needs)
     same-length
     (λ c. search needs)

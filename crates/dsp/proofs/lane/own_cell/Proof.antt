@@ -1,5 +1,6 @@
 -- The callees, with the read-backs removed; a fit voice has a level that keeps its output to 16 bits.
 use borrow.Author.Needs.{needs}
+use native.Mathlib.Nat.{mod-eq-of-lt}
 use mathlib.Core.Path.{_∙_, sym, ap, subst}
 use Prim.Native.Nat.{_+_, _*_, _≤_}
 use lib.ListN.{getD}
@@ -14,7 +15,8 @@ use Rattle.dsp.proofs.lane.own_cell.Tie as tie
 low : (c : tie.After-stepped) → c .stepped .result .play .envelope .level ≤ 0x800
 low c =
     let s = c .before .before .before .before .before .before .before .before .before .before .before in
-    subst (λ (w : Waiting). w .play .envelope .level ≤ 0x800) (sym (c .stepped .ensures))
+    let e = c .stepped .ensures in
+    subst (λ (w : Waiting). w .play .envelope .level ≤ 0x800) {x = e 1} {y = e 0} (sym {a = e 0} {b = e 1} e)
     (fit-kept-waited _ _ _ _ _ _ _ _ _ _ (s .pre .5) (s .pre .6) .play .envelope .level)
 
 finished-requires : tie.Need-finished-requires
@@ -25,8 +27,11 @@ unfolding ownCell cellOf
 returns c = let s = c .before .before .before .before .before .before .before .before .before .before .before .before .before in
     let a = s .args in
     let e = toZ-ofZ w16 (a .prev) (s .fits .prev) in
-    let w = c .before .before .stepped .ensures ∙ (λ i. waitedOf (a .c) (a .ram .now) (a .j) (e i) (a .v) (a .delay) (getD (a .bytes .now) (a .j * 16 + 4) 0) (getD (a .bytes .now) (a .j * 16 + 8) 0) (c .before .before .before .before .before .before .bit .ensures i) (c .before .before .before .before .samples .ensures i)) in
-    c .finished .ensures ∙ ap (cellAfter (a .c) (a .j) (a .v)) w
+    let endx = rw (mod-eq-of-lt (s .pre .4)) at (c .before .before .before .before .before .before .bit .ensures) in
+    let t = c .before .before .stepped .ensures in
+    let f = c .finished .ensures in
+    let w = _∙_ {a = t 0} {b = t 1} t (λ i. waitedOf (a .c) (a .ram .now) (a .j) (e i) (a .v) (a .delay) (getD (a .bytes .now) (a .j * 16 + 4) 0) (getD (a .bytes .now) (a .j * 16 + 8) 0) (endx i) (c .before .before .before .before .samples .ensures i)) in
+    _∙_ {b = f 1} f (ap (cellAfter (a .c) (a .j) (a .v)) {x = t 0} w)
 
 pub own-cell-spec : {M : Type 1} → statement M
 own-cell-spec =

@@ -1,5 +1,6 @@
 -- Three stores; the output has 16 bits.
 use borrow.Author.Needs.{needs}
+use native.Mathlib.Nat.{mod-eq-of-lt}
 use native.Mathlib.Omega.{arith}
 use mathlib.Core.Path.{_∙_, ap}
 use Prim.Native.Nat.{ℕ, _+_, _*_}
@@ -16,7 +17,7 @@ unfolding putBytes
 returns c =
     let s = c .before .before .before .before in
     let a = s .args in
-    ap (λ (x : ℕ). set (set (set (a .bytes .now) (a .j * 16 + 8) (a .envx)) (a .j * 16 + 9) (c .before .before .high .result)) 0x7C x) (c .with-bit .ensures)
+    ap (λ (x : ℕ). set (set (set (a .bytes .now) (a .j * 16 + 8) (a .envx)) (a .j * 16 + 9) (c .before .before .high .result)) 0x7C x) (rw (mod-eq-of-lt (s .pre .1)) at (c .with-bit .ensures))
     ∙ ap (λ (x : ℕ). putEndx (a .j) (a .endx) (set (set (a .bytes .now) (a .j * 16 + 8) (a .envx)) (a .j * 16 + 9) x)) (c .before .before .high .ensures ∙ ap highZ (toZ-ofZ w16 (a .out) (s .fits .out)))
 
 pub put-bytes-spec : {M : Type 1} → statement M

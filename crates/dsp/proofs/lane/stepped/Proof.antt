@@ -1,5 +1,6 @@
 -- The callees; the poll keeps the voice fit.
 use borrow.Author.Needs.{needs}
+use native.Mathlib.Nat.{mod-eq-of-lt}
 use mathlib.Core.Path.{_∙_, ap}
 use mir.Syntax.{w16}
 use mir.ValLaws.{toZ-ofZ}
@@ -18,17 +19,17 @@ unfolding waitedOf
 returns c =
     let s = c .before .before .before .before .before .before .before .before .before .before in
     let a = s .args in
-    let d = c .before .before .before .before .before .delay-of .ensures ∙ (λ i. delayOf (c .before .before .before .before .before .before .bit .ensures i) (a .delay)) in
+    let kon = rw (mod-eq-of-lt (s .pre .4)) at (c .before .before .before .before .before .before .bit .ensures) in
+    let d = c .before .before .before .before .before .delay-of .ensures ∙ (λ i. delayOf (kon i) (a .delay)) in
     let x = c .before .before .before .source-of .ensures ∙ ap (sourceOf (a .c .pmon) (a .j)) (toZ-ofZ w16 (a .prev) (s .fits .prev)) in
-    c .before .waited .ensures
-    ∙ (λ i. waited (a .ram .now) (a .c .dir) (a .srcn) (c .before .before .before .before .settings .ensures i) (a .v .pitch) (x i) (a .envx) (d i) (record { play = c .before .before .before .before .before .before .before .polled .ensures i; samples = a .samples .now }))
+    rw (← x, ← d, ← c .before .before .before .before .settings .ensures, ← c .before .before .before .before .before .before .before .polled .ensures) (c .before .waited .ensures)
 
 pub stepped-spec : {M : Type 1} → statement M
 stepped-spec =
     tie.close
     (tie.spec
     (λ c κs. c .before .before .pre .4)
-    (λ c κs. c .before .before .before .pre .4)
+    (λ c κs. tt)
     (λ c κs. search needs)
     (λ c κs. search needs)
     (λ c κs. c .before .before .before .before .before .before .pre .4)

@@ -29,7 +29,7 @@ unfolding turns dryTurn
 loop-again c =
     let o = c .before .before .before .scaled-output in
     let l = c .before .before .before .before .before .before .before .before .loop in
-    (search needs, rw (c .heard .ensures, add-one, turns, ← l .inv .1, landed w16 (o .ok), o .ensures) (search needs))
+    (search needs, rw (c .with-voice .ensures, add-one, turns, ← l .inv .1, landed w16 (o .ok), o .ensures) (search needs))
 
 returns : tie.Need-returns Inv-loop μ-loop
 unfolding dryOf

@@ -19,7 +19,7 @@ scaled-output-spec =
     tie.close
     (tie.spec
     (λ c κs. search needs)
-    (λ c. fits (search (q-level, quotes) depth 20) tt)
+    (λ c. fits (search quotes depth 20) tt)
     (λ c. search needs)
     (λ c. fits (search (q-level, quotes) depth 20) tt)
     (λ c. fits (search (q-level, quotes) depth 20) tt)

@@ -1,11 +1,12 @@
 -- The measure is the room that is left in the buffer.
 use borrow.Author.Needs.{needs}
 use borrow.Rule.Slice.PartMut.{putMid, same-len-mid}
-use mathlib.Core.Path.{_≡_, sym, _∙_}
+use mathlib.Core.Path.{_≡_, _∙_}
 use Prim.Native.Nat.{ℕ, _+_, _-_, _≤_}
 use native.Mathlib.Omega.{arith}
 use lib.ListN.{length, drop, length-drop}
 use lib.Seq.{length-take-le}
+use Rattle.report.proofs.Takes.{nothing, taken}
 use Rattle.report.proofs.input.fill.Statement.{statement}
 use Rattle.report.proofs.input.fill.Tie as tie
 
@@ -40,11 +41,11 @@ fill-spec =
     (λ c κs. search needs)
     (λ c κs. search needs)
     (λ c. search needs)
+    (λ c. nothing (c .none .result) _ (c .none .ensures .1))
     (λ c. search needs)
-    (λ c. search needs)
-    (λ c. (search needs, sym (length-take-le _ _ (search needs))))
+    (λ c. taken _ _ (search needs))
     (λ c. omega (arith, grown c))
     (λ c. omega (arith, grown c, same c))
     (λ c. (same c ∙ c .before .before .before .before .before .before .before .before .before .loop .inv .0, omega (arith, grown c, same c)))
     (λ c. search needs)
-    (λ c. (search needs, sym (length-take-le _ _ (search needs)))))
+    (λ c. taken _ _ (search needs)))

@@ -1,7 +1,6 @@
 -- No more than there is.
 use borrow.Author.Needs.{needs}
-use mathlib.Core.Path.{sym}
-use lib.Seq.{length-take-le}
+use Rattle.report.proofs.Takes.{counted}
 use Rattle.report.proofs.runs.within.Statement.{statement}
 use Rattle.report.proofs.runs.within.Tie as tie
 
@@ -10,4 +9,4 @@ within-spec =
     tie.close
     (tie.spec
     (λ c κs. search needs)
-    (λ c. let l = c .least .ensures .1 in (l, sym (length-take-le (c .least .result) (c .before .before .args .buf .now) l))))
+    (λ c. let l = c .least .ensures in (l .0, counted (c .least .result) (c .before .before .args .buf .now) (l .2))))

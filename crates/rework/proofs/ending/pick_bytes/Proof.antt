@@ -3,13 +3,13 @@ use borrow.Author.Needs.{needs}
 use Prim.Native.Nat.{_-_}
 use native.Mathlib.Omega.{arith}
 use lib.ListN.{getD}
-use Rattle.rework.specs.Rework.{byteOf, pickedBytes}
+use Rattle.rework.specs.Rework.{endByte, pickedBytes}
 use Rattle.rework.proofs.Listed.{Stored, stored-none, stored-more, stored-at, stored-all}
 use Rattle.rework.proofs.ending.pick_bytes.Statement.{statement}
 use Rattle.rework.proofs.ending.pick_bytes.Tie as tie
 
 abbrev Inv-loop : tie.InvT-loop
-Inv-loop set new bytes₀ i₀ bytes i = Stored 128 (λ k. byteOf set k (getD new k 0) (getD bytes₀ k 0)) bytes₀ i bytes
+Inv-loop set new bytes₀ i₀ bytes i = Stored 128 (λ k. endByte set k (getD new k 0) (getD bytes₀ k 0)) bytes₀ i bytes
 
 abbrev μ-loop : tie.MeasureT-loop
 μ-loop set new bytes₀ i₀ bytes i = 128 - i

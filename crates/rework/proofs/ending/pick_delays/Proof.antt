@@ -1,10 +1,11 @@
 -- After j stores the first j are chosen.
 use borrow.Author.Needs.{needs}
+use native.Mathlib.Nat.{mod-eq-of-lt}
 use Prim.Native.Nat.{_-_}
 use native.Mathlib.Omega.{arith}
 use lib.ListN.{getD}
 use Rattle.numbers.specs.Choice.{if_then_else_}
-use Rattle.dsp.specs.Mix.{bit}
+use Rattle.numbers.specs.Bits.{bit}
 use Rattle.rework.specs.Rework.{picked}
 use Rattle.rework.proofs.Listed.{Stored, stored-none, stored-more, stored-at, stored-all}
 use Rattle.rework.proofs.ending.pick_delays.Statement.{statement}
@@ -23,7 +24,7 @@ loop-again : tie.Need-loop-again Inv-loop μ-loop
 loop-again c =
     let s = c .before .before .before .loop .inv in
     let l = c .before .before .loop-test .taken in
-    stored-more s l (rw (c .delay-of .ensures, c .before .bit .ensures, stored-at s 0 l))
+    stored-more s l (rw (c .delay-of .ensures, rw (mod-eq-of-lt l) at (c .before .bit .ensures), stored-at s 0 l))
 
 returns : tie.Need-returns Inv-loop μ-loop
 unfolding picked

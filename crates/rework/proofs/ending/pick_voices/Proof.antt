@@ -1,11 +1,12 @@
 -- After j stores the first j are chosen.
 use borrow.Author.Needs.{needs}
+use native.Mathlib.Nat.{mod-eq-of-lt}
 use Prim.Native.Nat.{_-_}
 use native.Mathlib.Omega.{arith}
 use lib.ListN.{getD}
 use Rattle.numbers.specs.Choice.{if_then_else_}
+use Rattle.numbers.specs.Bits.{bit}
 use Rattle.dsp.specs.Machine.{noVoice}
-use Rattle.dsp.specs.Mix.{bit}
 use Rattle.rework.specs.Rework.{picked}
 use Rattle.rework.proofs.Listed.{Stored, stored-none, stored-more, stored-at, stored-all}
 use Rattle.rework.proofs.ending.pick_voices.Statement.{statement}
@@ -24,7 +25,7 @@ loop-again : tie.Need-loop-again Inv-loop μ-loop
 loop-again c =
     let s = c .before .before .before .before .before .loop .inv in
     let l = c .before .before .before .before .loop-test .taken in
-    stored-more s l (rw (c .voice-of .ensures, c .before .bit .ensures, stored-at s noVoice l))
+    stored-more s l (rw (c .voice-of .ensures, rw (mod-eq-of-lt l) at (c .before .bit .ensures), stored-at s noVoice l))
 
 returns : tie.Need-returns Inv-loop μ-loop
 unfolding picked

@@ -1,6 +1,5 @@
 -- By the refusals; then the run of the set.
 use borrow.Author.Needs.{needs}
-use mathlib.Core.Path.{sym, _∙_}
 use borrow.Author.Tests.{ne-eqb}
 use Rattle.rework.specs.Rework.{reworkOf}
 use Rattle.rework.proofs.Reworks.{done, leaving, refused-run, whole-run}
@@ -11,17 +10,19 @@ returns : tie.Need-returns
 unfolding reworkOf
 returns c = let a = c .before .before .before .before .before .before .before .before .before .before .args in
     let e = c .refused .ensures in
-    rw (← c .before .before .before .checked .ensures .0, ne-eqb _ _ (c .before .if1 .taken)) (λ i. leaving (e .0 i) (e .1 i) (e .2 i) (e .3 i) (a .sheet .now) (a .pcm .now) (a .readings .now))
+    rw (← c .before .before .before .checked .ensures .0, ne-eqb _ _ (c .before .if1 .taken)) (λ i. leaving (e .0 i) (e .1 i) (e .2 i) (e .3 i) (a .pcm .now) (a .sheet .now) (a .readings .now))
 
 returns-2 : tie.Need-returns-2
 returns-2 c = let a = c .before .before .before .before .before .before .before .before .before .before .before .before .before .before .before .before .before .before .before .before .before .before .before .before .before .before .before .before .args in
-    let d = done (a .named) (a .start) (a .old-end) (a .ram .now) (a .old-log .now) (a .new-log .now) (a .sheet .now) (a .pcm .now) (a .readings .now) (c .before .before .before .before .before .before .before .before .before .before .before .before .before .before .before .before .before .before .blank-ram .result) (c .before .before .before .before .before .before .before .before .before .before .before .before .before .before .before .before .before .before .before .before .before .checked .ensures .0) (c .before .before .before .before .before .before .before .before .before .before .before .before .before .before .before .before .before .before .before .if1 .left) (c .before .before .before .before .before .before .before .before .before .before .before .before .before .before .before .before .before .before .before .before .before .checked .ensures .1) (c .before .before .before .before .before .before .before .before .before .before .before .before .before .before .before .before .before .before .blank-ram .ensures) (c .before .before .before .before .before .before .before .before .before .before .before .before .before .before .before .before .copy .ensures) (c .before .before .before .before .before .before .before .before .before .before .run-with .ensures) in
-    refused-run (a .named) (a .start) (a .old-end) (a .ram .now) (a .old-log .now) (a .new-log .now) d (c .refused2 .ensures .0) (c .refused2 .ensures .1) (c .refused2 .ensures .2) (c .refused2 .ensures .3) (c .before .if2 .taken)
+    let x = c .before .before .before .before .before .before .before .before .before .before .run-with .ensures in
+    let d = done (a .named) (a .start) (a .old-end) (a .ram .now) (a .old-log .now) (a .new-log .now) (a .pcm .now) (a .sheet .now) (a .readings .now) (c .before .before .before .before .before .before .before .before .before .before .before .before .before .before .before .before .before .before .blank-ram .result) {o = x 0} (c .before .before .before .before .before .before .before .before .before .before .before .before .before .before .before .before .before .before .before .before .before .checked .ensures .0) (c .before .before .before .before .before .before .before .before .before .before .before .before .before .before .before .before .before .before .before .if1 .left) (c .before .before .before .before .before .before .before .before .before .before .before .before .before .before .before .before .before .before .before .before .before .checked .ensures .1) (c .before .before .before .before .before .before .before .before .before .before .before .before .before .before .before .before .before .before .blank-ram .ensures) (c .before .before .before .before .before .before .before .before .before .before .before .before .before .before .before .before .copy .ensures) x in
+    refused-run (a .named) (a .start) (a .old-end) (a .ram .now) (a .old-log .now) (a .new-log .now) {o = x 0} d (c .refused2 .ensures .0) (c .refused2 .ensures .1) (c .refused2 .ensures .2) (c .refused2 .ensures .3) (c .before .if2 .taken)
 
 returns-3 : tie.Need-returns-3
 returns-3 c = let a = c .before .before .before .before .before .before .before .before .before .before .before .before .before .before .before .before .before .before .before .before .before .before .before .before .before .before .before .before .before .args in
-    let d = done (a .named) (a .start) (a .old-end) (a .ram .now) (a .old-log .now) (a .new-log .now) (a .sheet .now) (a .pcm .now) (a .readings .now) (c .before .before .before .before .before .before .before .before .before .before .before .before .before .before .before .before .before .before .before .blank-ram .result) (c .before .before .before .before .before .before .before .before .before .before .before .before .before .before .before .before .before .before .before .before .before .before .checked .ensures .0) (c .before .before .before .before .before .before .before .before .before .before .before .before .before .before .before .before .before .before .before .before .if1 .left) (c .before .before .before .before .before .before .before .before .before .before .before .before .before .before .before .before .before .before .before .before .before .before .checked .ensures .1) (c .before .before .before .before .before .before .before .before .before .before .before .before .before .before .before .before .before .before .before .blank-ram .ensures) (c .before .before .before .before .before .before .before .before .before .before .before .before .before .before .before .before .before .copy .ensures) (c .before .before .before .before .before .before .before .before .before .before .before .run-with .ensures) in
-    whole-run (a .named) (a .start) (a .old-end) (a .ram .now) (a .old-log .now) (a .new-log .now) d (c .before .before .if2 .left) (c .before .end-of .ensures) (c .count .ensures)
+    let x = c .before .before .before .before .before .before .before .before .before .before .before .run-with .ensures in
+    let d = done (a .named) (a .start) (a .old-end) (a .ram .now) (a .old-log .now) (a .new-log .now) (a .pcm .now) (a .sheet .now) (a .readings .now) (c .before .before .before .before .before .before .before .before .before .before .before .before .before .before .before .before .before .before .before .blank-ram .result) {o = x 0} (c .before .before .before .before .before .before .before .before .before .before .before .before .before .before .before .before .before .before .before .before .before .before .checked .ensures .0) (c .before .before .before .before .before .before .before .before .before .before .before .before .before .before .before .before .before .before .before .before .if1 .left) (c .before .before .before .before .before .before .before .before .before .before .before .before .before .before .before .before .before .before .before .before .before .before .checked .ensures .1) (c .before .before .before .before .before .before .before .before .before .before .before .before .before .before .before .before .before .before .before .blank-ram .ensures) (c .before .before .before .before .before .before .before .before .before .before .before .before .before .before .before .before .before .copy .ensures) x in
+    whole-run (a .named) (a .start) (a .old-end) (a .ram .now) (a .old-log .now) (a .new-log .now) {o = x 0} d (c .before .before .if2 .left) (c .before .end-of .ensures) (c .count .ensures)
 
 pub rework-spec : {M : Type 1} → statement M
 rework-spec =

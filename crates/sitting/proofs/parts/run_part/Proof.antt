@@ -1,64 +1,55 @@
 -- By the refusals, in their order; then the record that stands there, or ticks.
 use borrow.Author.Needs.{needs}
-use mathlib.Core.Path.{_≡_, sym, ap, subst, _∙_}
-use Prim.Native.Nat.{ℕ}
+use mathlib.Core.Bool.{true}
+use mathlib.Core.Path.{_≡_, sym, _∙_}
 use native.Mathlib.Omega.{arith}
 use lib.ListN.{length}
-use borrow.Author.Tests.{eq-eqb, ne-eqb, lt-ltb, le-ltb, not-true, not-false}
+use borrow.Author.Tests.{not-true, not-false}
+use Rattle.dsp.specs.Fit.{fit}
 use Rattle.dsp.proofs.Fits.{fit-facts}
-use Rattle.sitting.specs.Parts.{Parted, sounding, partOf, Goes}
-use Rattle.sitting.proofs.Parting.{refused-goes, sound-goes}
+use Rattle.sitting.specs.Parts.{logRefusal}
+use Rattle.sitting.proofs.Parting.{ram-refused, unfit-refused, log-refused, record-told, no-room, sounds}
 use Rattle.sitting.proofs.parts.run_part.Statement.{statement}
 use Rattle.sitting.proofs.parts.run_part.Tie as tie
 
+-- ---- what the tests that let the part on have told
+
+ram-there : (c : tie.Else1) → length (c .before .before .before .before .before .args .ram .now) ≡ 0x10000
+ram-there c = omega (arith, c .if1 .left)
+
+fit-there : (c : tie.Else2) → fit (c .before .before .before .before .before .before .before .args .stage .dsp) ≡ true
+fit-there c = sym (c .before .is-fit .ensures) ∙ not-false _ (c .if2 .left)
+
+log-taken : (c : tie.Else3) → logRefusal (c .before .before .before .before .before .before .before .before .before .args .stage .at) (c .before .before .before .before .before .before .before .before .before .args .log .now) ≡ 0
+log-taken c = sym (c .before .log-refusal .ensures) ∙ c .if3 .left
+
 returns : tie.Need-returns
-unfolding partOf
-returns c = let a = c .before .before .before .before .before .before .args in
-    (rw (ne-eqb _ _ (c .before .if1 .taken)) (λ i. record { told = c .refused .ensures i; ram = a .ram .now; pcm = a .pcm .now }), subst (Goes (a .stage .at) (a .stage .left) (length (a .log .now))) (sym (c .refused .ensures)) (refused-goes 0 (a .stage .at) (a .stage .left) (length (a .log .now)) (a .stage .at) (a .stage .left) (a .stage .dsp)))
+returns c = ram-refused _ _ _ _ _ _ _ (c .before .if1 .taken) (c .refused .ensures)
 
 returns-2 : tie.Need-returns-2
-unfolding partOf
-returns-2 c = let a = c .before .before .before .before .before .before .before .before .args in
-    let e : length (c .before .before .before .before .before .before .before .before .args .ram .now) ≡ 0x10000 = omega (arith, c .before .before .before .if1 .left) in
-    (rw (eq-eqb _ _ e, sym (c .before .before .is-fit .ensures) ∙ not-true _ (c .before .if2 .taken)) (λ i. record { told = c .refused2 .ensures i; ram = a .ram .now; pcm = a .pcm .now }), subst (Goes (a .stage .at) (a .stage .left) (length (a .log .now))) (sym (c .refused2 .ensures)) (refused-goes 1 (a .stage .at) (a .stage .left) (length (a .log .now)) (a .stage .at) (a .stage .left) (a .stage .dsp)))
+returns-2 c = unfit-refused _ _ _ _ _ _ _ (ram-there (c .before .before .before)) (sym (c .before .before .is-fit .ensures) ∙ not-true _ (c .before .if2 .taken)) (c .refused2 .ensures)
 
 returns-3 : tie.Need-returns-3
-unfolding partOf
-returns-3 c = let a = c .before .before .before .before .before .before .before .before .before .args in
-    let e : length (c .before .before .before .before .before .before .before .before .before .args .ram .now) ≡ 0x10000 = omega (arith, c .before .before .before .before .if1 .left) in
-    (rw (eq-eqb _ _ e, sym (c .before .before .before .is-fit .ensures) ∙ not-false _ (c .before .before .if2 .left), lt-ltb _ _ (c .before .if3 .taken)) (λ i. record { told = c .refused3 .ensures i; ram = a .ram .now; pcm = a .pcm .now }), subst (Goes (a .stage .at) (a .stage .left) (length (a .log .now))) (sym (c .refused3 .ensures)) (refused-goes 2 (a .stage .at) (a .stage .left) (length (a .log .now)) (a .stage .at) (a .stage .left) (a .stage .dsp)))
+returns-3 c = log-refused _ _ _ _ _ _ (ram-there (c .before .before .before .before .before)) (fit-there (c .before .before .before)) _ _ (c .before .before .log-refusal .ensures) (c .before .if3 .taken) (c .refused3 .ensures)
 
 at-record-requires : tie.Need-at-record-requires
-at-record-requires c κs = (c .if4 .taken, fit-facts _ (sym (c .before .before .before .before .is-fit .ensures) ∙ not-false _ (c .before .before .before .if2 .left)))
+at-record-requires c κs = (c .if4 .taken, fit-facts _ (fit-there (c .before .before .before .before)))
 
 returns-4 : tie.Need-returns-4
-unfolding partOf
-returns-4 c = let a = c .before .before .before .before .before .before .before .before .before .before .before .args in
-    let e : length (c .before .before .before .before .before .before .before .before .before .before .before .args .ram .now) ≡ 0x10000 = omega (arith, c .before .before .before .before .before .before .if1 .left) in
-    let r = c .at-record .ensures in
-    (rw (eq-eqb _ _ e, sym (c .before .before .before .before .before .is-fit .ensures) ∙ not-false _ (c .before .before .before .before .if2 .left), le-ltb _ _ (c .before .before .before .if3 .left), eq-eqb _ _ (c .before .if4 .taken)) (λ i. record { told = r .0 i; ram = a .ram .now; pcm = a .pcm .now }), rw (c .before .if4 .taken) (r .1))
+returns-4 c = let r = c .at-record .ensures in record-told _ _ _ _ _ _ (ram-there (c .before .before .before .before .before .before .before)) (fit-there (c .before .before .before .before .before)) (log-taken (c .before .before .before)) _ (c .before .if4 .taken) (r .0) (r .1)
 
 returns-5 : tie.Need-returns-5
-unfolding partOf
-returns-5 c = let a = c .before .before .before .before .before .before .before .before .before .before .before .before .args in
-    let e : length (c .before .before .before .before .before .before .before .before .before .before .before .before .args .ram .now) ≡ 0x10000 = omega (arith, c .before .before .before .before .before .before .before .if1 .left) in
-    (rw (eq-eqb _ _ e, sym (c .before .before .before .before .before .before .is-fit .ensures) ∙ not-false _ (c .before .before .before .before .before .if2 .left), le-ltb _ _ (c .before .before .before .before .if3 .left), ne-eqb _ _ (c .before .before .if4 .left), lt-ltb _ _ (c .before .if5 .taken)) (λ i. record { told = c .refused4 .ensures i; ram = a .ram .now; pcm = a .pcm .now }), subst (Goes (a .stage .at) (a .stage .left) (length (a .log .now))) (sym (c .refused4 .ensures)) (refused-goes 9 (a .stage .at) (a .stage .left) (length (a .log .now)) (a .stage .at) (a .stage .left) (a .stage .dsp)))
+returns-5 c = no-room _ _ _ _ _ _ (ram-there (c .before .before .before .before .before .before .before .before)) (fit-there (c .before .before .before .before .before .before)) (log-taken (c .before .before .before .before)) _ (c .before .before .if4 .left) (c .before .if5 .taken) (c .refused4 .ensures)
 
 ticks-now-requires : tie.Need-ticks-now-requires
 ticks-now-requires c κs = (let l = c .before .if4 .left in omega (arith, l), let l = c .if5 .left in omega (arith, l))
 
 sounded-requires : tie.Need-sounded-requires
-sounded-requires c κs = let e : length (c .before .before .before .before .before .before .before .before .before .before .before .before .before .before .args .ram .now) ≡ 0x10000 = omega (arith, c .before .before .before .before .before .before .before .before .before .if1 .left) in
-    let t = c .before .before .ticks-now .ensures in
-    (e, fit-facts _ (sym (c .before .before .before .before .before .before .before .before .is-fit .ensures) ∙ not-false _ (c .before .before .before .before .before .before .before .if2 .left)), t .2, t .3, t .4)
+sounded-requires c κs = let t = c .before .before .ticks-now .ensures in (ram-there (c .before .before .before .before .before .before .before .before .before .before), fit-facts _ (fit-there (c .before .before .before .before .before .before .before .before)), t .2, t .3, t .4)
 
 returns-6 : tie.Need-returns-6
-unfolding partOf
-returns-6 c = let a = c .before .before .before .before .before .before .before .before .before .before .before .before .before .before .before .before .before .before .before .args in
-    let e : length (c .before .before .before .before .before .before .before .before .before .before .before .before .before .before .before .before .before .before .before .args .ram .now) ≡ 0x10000 = omega (arith, c .before .before .before .before .before .before .before .before .before .before .before .before .before .before .if1 .left) in
-    let t = c .before .before .before .before .before .before .before .ticks-now .ensures in
-    let x = c .before .before .before .before .sounded .ensures ∙ ap (λ (n : ℕ). sounding n (a .stage .dsp) (a .stage .at) (a .stage .left) (a .ram .now) (a .pcm .now)) (t .0) in
-    (rw (eq-eqb _ _ e, sym (c .before .before .before .before .before .before .before .before .before .before .before .before .before .is-fit .ensures) ∙ not-false _ (c .before .before .before .before .before .before .before .before .before .before .before .before .if2 .left), le-ltb _ _ (c .before .before .before .before .before .before .before .before .before .before .before .if3 .left), ne-eqb _ _ (c .before .before .before .before .before .before .before .before .before .if4 .left), le-ltb _ _ (c .before .before .before .before .before .before .before .before .if5 .left)) x, subst (λ (p : Parted). Goes (a .stage .at) (a .stage .left) (length (a .log .now)) (p .told)) (sym (c .before .before .before .before .sounded .ensures)) (sound-goes _ _ _ _ _ _ _ (t .1) (t .2)))
+returns-6 c = let t = c .before .before .before .before .before .before .before .ticks-now .ensures in
+    sounds _ _ _ _ _ _ (ram-there (c .before .before .before .before .before .before .before .before .before .before .before .before .before .before .before)) (fit-there (c .before .before .before .before .before .before .before .before .before .before .before .before .before)) (log-taken (c .before .before .before .before .before .before .before .before .before .before .before)) _ _ (c .before .before .before .before .before .before .before .before .before .if4 .left) (c .before .before .before .before .before .before .before .before .if5 .left) (t .0) (t .1) (t .2) (c .before .before .before .before .sounded .ensures)
 
 pub run-part-spec : {M : Type 1} → statement M
 run-part-spec =
@@ -69,6 +60,7 @@ run-part-spec =
     (λ c κs. search needs)
     (λ c κs. search needs)
     returns-2
+    (λ c κs. search needs)
     (λ c κs. search needs)
     returns-3
     at-record-requires

@@ -63,7 +63,7 @@ loop-again : tie.Need-loop-again Inv-loop μ-loop
 loop-again c = let l = c .before .before .before .before .before .before .before .before .before .before .before .before .before .before .before .before .before .loop in
     let k = c .before .before .before .before .before .before .before .before .played .kept in
     let e = c .before .before .before .before .before .before .before .before .played .ensures in
-    (k .1 .1 .1 .0 ∙ l .inv .0, k .1 .1 .1 .1 .0 ∙ l .inv .1, k .1 .1 .1 .1 .1 .0 ∙ l .inv .2, k .1 .1 .1 .1 .1 .1 .0 ∙ l .inv .3, e .1, played-on (l .inv .5) (turn (c .before .before .before .before .before .before .before .before .before .before .before .before .before)) (record { is = e .0; fit = e .1; ticks = e .2; readings = e .3 }))
+    (k .1 .1 .1 .0 ∙ l .inv .0, k .1 .1 .1 .1 .0 ∙ l .inv .1, k .1 .1 .1 .1 .1 .0 ∙ l .inv .2, k .1 .1 .1 .1 .1 .1 .0 ∙ l .inv .3, e .1, played-on {y = e .0 0} (l .inv .5) (turn (c .before .before .before .before .before .before .before .before .before .before .before .before .before)) (record { is = e .0; fit = e .1; ticks = e .2; readings = e .3 }))
 
 pub play-all-spec : {M : Type 1} → statement M
 play-all-spec =

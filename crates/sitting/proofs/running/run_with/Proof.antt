@@ -1,7 +1,7 @@
 -- By the refusals, in their order; then the log's records.
 use borrow.Author.Needs.{needs}
 use mathlib.Core.List.{List}
-use mathlib.Core.Path.{_≡_, sym, ap, _∙_}
+use mathlib.Core.Path.{_≡_, sym, _∙_}
 use Prim.Native.Nat.{ℕ}
 use native.Mathlib.Omega.{arith}
 use lib.ListN.{length}
@@ -41,19 +41,20 @@ returns-4 : tie.Need-returns-4
 unfolding runWith runMeasured
 returns-4 c = let a = c .before .before .before .before .before .before .before .before .before .before .before .before .before .before .args in
     let e : length (c .before .before .before .before .before .before .before .before .before .before .before .before .before .before .args .ram .now) ≡ 0x10000 = omega (arith, c .before .before .before .before .before .before .before .before .if1 .left) in
-    rw (eq-eqb _ _ e, sym (c .before .before .before .before .before .before .before .is-fit .ensures) ∙ not-false _ (c .before .before .before .before .before .before .if2 .left), ← c .before .before .before .before .before .measure .ensures, eq-eqb _ _ (c .before .before .before .if3 .left), sym (c .before .before .is-room .ensures) ∙ not-true _ (c .before .if4 .taken)) (λ i. outcome (c .refused4 .ensures .0 i) (c .refused4 .ensures .1 i) (c .refused4 .ensures .2 i) (c .refused4 .ensures .3 i) (a .ram .now) (a .pcm .now) (a .sheet .now) (a .readings .now))
+    rw (eq-eqb _ _ e, sym (c .before .before .before .before .before .before .before .is-fit .ensures) ∙ not-false _ (c .before .before .before .before .before .before .if2 .left), ← c .before .before .before .before .before .measure .ensures, eq-eqb _ _ (c .before .before .before .if3 .left), ← c .before .before .is-room .ensures, not-true (c .before .before .is-room .result) (c .before .if4 .taken)) (λ i. outcome (c .refused4 .ensures .0 i) (c .refused4 .ensures .1 i) (c .refused4 .ensures .2 i) (c .refused4 .ensures .3 i) (a .ram .now) (a .pcm .now) (a .sheet .now) (a .readings .now))
 
 play-all-requires : tie.Need-play-all-requires
 play-all-requires c κs = let e : length (c .before .before .before .before .before .before .before .before .before .before .before .before .before .before .before .before .before .args .ram .now) ≡ 0x10000 = omega (arith, c .before .before .before .before .before .before .before .before .before .before .before .if1 .left) in
-    (e, fit-facts _ (sym (c .before .before .before .before .before .before .before .before .before .before .is-fit .ensures) ∙ not-false _ (c .before .before .before .before .before .before .before .before .before .if2 .left)), ready _ _ _ _ (c .before .before .before .before .before .before .before .before .measure .result) (taken _ _ (c .before .before .before .before .before .before .before .before .measure .ensures) (c .before .before .before .before .before .before .if3 .left)) (sym (c .before .before .before .before .before .is-room .ensures) ∙ not-false _ (c .before .before .before .before .if4 .left)))
+    let r = c .before .before .before .before .before .is-room .ensures in
+    (e, fit-facts _ (sym (c .before .before .before .before .before .before .before .before .before .before .is-fit .ensures) ∙ not-false _ (c .before .before .before .before .before .before .before .before .before .if2 .left)), ready _ _ _ _ (c .before .before .before .before .before .before .before .before .measure .result) (taken _ _ (c .before .before .before .before .before .before .before .before .measure .ensures) (c .before .before .before .before .before .before .if3 .left)) (_∙_ {a = r 1} (sym {b = r 1} r) (not-false _ (c .before .before .before .before .if4 .left))))
 
 returns-5 : tie.Need-returns-5
 unfolding runWith runMeasured
 returns-5 c = let a = c .before .before .before .before .before .before .before .before .before .before .before .before .before .before .before .before .before .before .before .before .before .before .before .before .before .before .args in
     let e : length (c .before .before .before .before .before .before .before .before .before .before .before .before .before .before .before .before .before .before .before .before .before .before .before .before .before .before .args .ram .now) ≡ 0x10000 = omega (arith, c .before .before .before .before .before .before .before .before .before .before .before .before .before .before .before .before .before .before .before .before .if1 .left) in
     let m = c .before .before .before .before .before .before .before .before .before .before .before .before .before .before .before .before .before .measure .result in
-    rw (eq-eqb _ _ e, sym (c .before .before .before .before .before .before .before .before .before .before .before .before .before .before .before .before .before .before .before .is-fit .ensures) ∙ not-false _ (c .before .before .before .before .before .before .before .before .before .before .before .before .before .before .before .before .before .before .if2 .left), ← c .before .before .before .before .before .before .before .before .before .before .before .before .before .before .before .before .before .measure .ensures, eq-eqb _ _ (c .before .before .before .before .before .before .before .before .before .before .before .before .before .before .before .if3 .left), sym (c .before .before .before .before .before .before .before .before .before .before .before .before .before .before .is-room .ensures) ∙ not-false _ (c .before .before .before .before .before .before .before .before .before .before .before .before .before .if4 .left))
-    (ap (ran m) (c .before .before .before .before .before .before .before .before .play-all .ensures))
+    rw (eq-eqb _ _ e, sym (c .before .before .before .before .before .before .before .before .before .before .before .before .before .before .before .before .before .before .before .is-fit .ensures) ∙ not-false _ (c .before .before .before .before .before .before .before .before .before .before .before .before .before .before .before .before .before .before .if2 .left), ← c .before .before .before .before .before .before .before .before .before .before .before .before .before .before .before .before .before .measure .ensures, eq-eqb _ _ (c .before .before .before .before .before .before .before .before .before .before .before .before .before .before .before .if3 .left), ← c .before .before .before .before .before .before .before .before .before .before .before .before .before .before .is-room .ensures, not-false (c .before .before .before .before .before .before .before .before .before .before .before .before .before .before .is-room .result) (c .before .before .before .before .before .before .before .before .before .before .before .before .before .if4 .left))
+    (λ i. ran m (c .before .before .before .before .before .before .before .before .play-all .ensures i))
 
 pub run-with-spec : {M : Type 1} → statement M
 run-with-spec =

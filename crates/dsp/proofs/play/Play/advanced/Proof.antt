@@ -1,9 +1,7 @@
 -- The callees; the position never goes back.
 use borrow.Author.Needs.{needs}
-use mathlib.Core.Path.{_∙_}
-use Prim.Native.Nat.{_-_, _/_, _%_}
 use native.Mathlib.Omega.{arith}
-use Rattle.dsp.specs.Voice.{withPosition, consume, samplesTaken, advanced}
+use Rattle.dsp.specs.Voice.{samplesTaken, advanced}
 use Rattle.dsp.proofs.Plays.{position-least}
 use Rattle.dsp.proofs.play.Play.advanced.Statement.{statement}
 use Rattle.dsp.proofs.play.Play.advanced.Tie as tie
@@ -19,10 +17,7 @@ consume-requires c κs =
 returns : tie.Need-returns
 unfolding advanced samplesTaken
 returns c =
-    let a = c .before .before .before .before .before .before .args in
-    let e = c .before .before .before .position-of .ensures in
-    c .before .consume .ensures
-    ∙ (λ i. consume (a .ram .now) (a .dir) (a .srcn) (e i / 0x1000 - a .self .«pitch_counter» % 0x4000 / 0x1000) (record { play = withPosition (a .self) (e i); samples = a .samples .now }))
+    rw (← c .before .before .before .position-of .ensures) (c .before .consume .ensures)
 
 pub advanced-spec : {M : Type 1} → statement M
 advanced-spec =

@@ -26,8 +26,9 @@ returns c =
 loop-again : tie.Need-loop-again Inv-loop μ-loop
 loop-again c =
     let l = c .before .before .before .before .before .before .before .loop in
-    let e = sym (c .before .before .before .take-one .ensures) in
-    (subst (λ (s : Sounding). length (s .samples) ≡ 16) e (taken-sized _ _ _ _ (l .inv .0)), subst (λ (s : Sounding). FitBlock (s .play)) e (taken-ready _ _ _ _ (l .inv .1)), goes-on _ _ _ _ _ _ (search needs) (c .before .before .before .take-one .ensures) (c .if1 .left) ∙ l .inv .2)
+    let t = c .before .before .before .take-one .ensures in
+    let e = sym {b = t 1} t in
+    (subst (λ (s : Sounding). length (s .samples) ≡ 16) {x = t 1} e (taken-sized _ _ _ _ (l .inv .0)), subst (λ (s : Sounding). FitBlock (s .play)) {x = t 1} e (taken-ready _ _ _ _ (l .inv .1)), goes-on _ _ _ _ _ _ (search needs) t (c .if1 .left) ∙ l .inv .2)
 
 pub consume-spec : {M : Type 1} → statement M
 consume-spec =

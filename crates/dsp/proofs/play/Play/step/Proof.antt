@@ -25,7 +25,7 @@ after-advance c =
     let a = s .args in
     let q : Sounding = record { play = withEnvelope (a .self) (envelopeTick (a .s) (a .self .envelope)); samples = a .samples .now } in
     let e = ap (λ (f : Envelope). resolved (a .ram .now) (record { play = withEnvelope (a .self) f; samples = a .samples .now })) (c .before .before .before .before .before .before .before .update-envelope .ensures) in
-    subst (λ (s : Sounding). Apt (s .play)) (sym (c .advanced .ensures ∙ ap (advanced (a .ram .now) (a .dir) (a .srcn) (a .pitch) (a .source)) (c .before .before .before .resolved .ensures ∙ e)))
+    subst (λ (s : Sounding). Apt (s .play)) (sym (_∙_ {b = c .advanced .ensures 1} (c .advanced .ensures) (ap (advanced (a .ram .now) (a .dir) (a .srcn) (a .pitch) (a .source)) (c .before .before .before .resolved .ensures ∙ e))))
     (advanced-apt (a .ram .now) (a .dir) (a .srcn) (a .pitch) (a .source) (resolved (a .ram .now) q)
     (resolved-apt (a .ram .now) q (enveloped-apt (a .s) (a .self) (s .pre .4) (fit-apt (a .self) (s .pre .5)))))
 
@@ -63,9 +63,10 @@ returns-2 c =
     let a = c .before .before .before .before .before .before .before .before .before .before .before .before .before .before .before .args in
     let e = c .before .before .before .before .before .before .before .before .before .before .before .update-envelope .ensures in
     let i = c .before .before .interpolated .ensures in
-    (λ j. record { play = i j; samples = (c .before .before .before .before .advanced .ensures 0) .samples; envx = i j .envelope .level / 16 })
-    ∙ ap shown (c .before .before .before .before .advanced .ensures)
-    ∙ ap (λ (s : Sounding). shown (advanced (a .ram .now) (a .dir) (a .srcn) (a .pitch) (a .source) s)) (c .before .before .before .before .before .before .before .resolved .ensures)
+    let d = c .before .before .before .before .advanced .ensures in
+    let q = _∙_ {b = d 1} d (ap (advanced (a .ram .now) (a .dir) (a .srcn) (a .pitch) (a .source)) (c .before .before .before .before .before .before .before .resolved .ensures)) in
+    (λ j. record { play = i j; samples = d 0 .samples; envx = i j .envelope .level / 16 })
+    ∙ ap shown q
     ∙ plays _ _ _ _ _ (a .envx) (record { play = withEnvelope (a .self) (c .before .before .before .before .before .before .before .before .before .before .before .update-envelope .result); samples = a .samples .now }) (sym (c .before .before .before .before .before .before .before .before .before .before .is-idle .ensures) ∙ c .before .before .before .before .before .before .before .before .before .if1 .left)
     ∙ ap (λ (f : Envelope). sounded (a .ram .now) (a .dir) (a .srcn) (a .pitch) (a .source) (a .envx) (record { play = withEnvelope (a .self) f; samples = a .samples .now })) e
 

@@ -1,6 +1,7 @@
 -- After v lanes the round and its row are the definition's after v turns; after i ticks, parts, samples and rows are the definition's after i ticks.
 
 use borrow.Author.Needs.{needs}
+use native.Mathlib.Nat.{mod-eq-of-lt}
 use mathlib.Core.List.{List, []}
 use mathlib.Core.Path.{_≡_, refl, sym, ap, subst, _∙_}
 use Prim.Native.Nat.{ℕ, _+_, _-_, _*_, _≤_, _<_}
@@ -10,18 +11,18 @@ use lib.ListN.{length, getD, drop-of-length-le}
 use mir.Syntax.{w16}
 use borrow.Rule.Slice.PartMut.{midOf, mid-len}
 use Rattle.numbers.proofs.Range.{landed}
-use Rattle.numbers.proofs.Parts.{unwritten, all-written}
+use Rattle.numbers.proofs.Parts.{unwritten, sized, all-written}
 use Rattle.dsp.specs.Machine.{noVoice, Parts, apart}
 use Rattle.dsp.specs.Fit.{FitGlob, Fit}
 use Rattle.dsp.specs.Noise.{FitNoise}
 use Rattle.dsp.specs.Sheet.{pairBytes}
 use Rattle.dsp.specs.Lane.{turned}
-use Rattle.dsp.specs.Tick.{frameOf, ticksOf}
+use Rattle.dsp.specs.Tick.{Bench, frameOf, ticksOf}
 use Rattle.dsp.specs.declared.voice.Voice.{Voice}
 use Rattle.dsp.specs.declared.lane.Acc.{Acc}
 use Rattle.dsp.specs.declared.registers.Glob.{Glob}
 use Rattle.dsp.proofs.Ticks.{glob-kept, bench-fit}
-use Rattle.dsp.proofs.Drives.{roundOf, Lanes, lanes-first, lane-on, lanes-sized, benchAt, Driven, tick-on, sheet-sized, pcm-sized}
+use Rattle.dsp.proofs.Drives.{roundOf, Lanes, lanes-first, lane-on, lanes-sized, benchAt, Driven, tick-on}
 use Rattle.dsp.proofs.registers.Dsp.drive.Statement.{statement}
 use Rattle.dsp.proofs.registers.Dsp.drive.Tie as tie
 
@@ -66,7 +67,7 @@ row-room : (c : tie.After-rates Inv-loop2 μ-loop2 Inv-loop μ-loop) → c .befo
 row-room c =
     let p = c .before .before .before .before .before .before .before .before .before .before .before .before .before .before .before .pre .4 in
     let t = c .before .loop-test .taken in
-    let z = sheet-sized (c .before .before .loop .inv .1) (omega (arith, p, t)) in
+    let z = sized (c .before .before .loop .inv .1 .shown) (omega (arith, p, t)) in
     omega (arith, p, t, z)
 
 -- and for each lane of it
@@ -90,8 +91,14 @@ sample-room : (c : tie.After-rates Inv-loop2 μ-loop2 Inv-loop μ-loop) → c .b
 sample-room c =
     let p = c .before .before .before .before .before .before .before .before .before .before .before .before .before .before .before .pre .3 in
     let t = c .before .loop-test .taken in
-    let z = pcm-sized (c .before .before .loop .inv .1) (omega (arith, p, t)) in
+    let z = sized (c .before .before .loop .inv .1 .put-out) (omega (arith, p, t)) in
     omega (arith, p, t, z)
+
+-- the bench before the first tick
+abbrev first : (c : tie.After-glob Inv-loop2 μ-loop2 Inv-loop μ-loop) → Bench
+first c =
+    let a = c .before .before .before .before .before .before .before .before .before .before .before .before .args in
+    benchAt (partsOf (c .before .before .before .before .before .bytes .result) (c .before .before .before .before .lanes .result) (c .before .before .before .delays .result) (a .self .«fir_coeff») (a .self .«fir_history_l») (a .self .«fir_history_r») (c .glob .result)) (a .ram .now) [] [] (a .sheet .now)
 
 loop-holds : tie.Need-loop-holds Inv-loop2 μ-loop2 Inv-loop μ-loop
 unfolding ticksOf
@@ -106,8 +113,8 @@ loop-holds c = let h = c .before .before .before .before .before .before .before
           round = record { bytes = bytes-sized (c .before .before .before .before .before); count = voices-sized (c .before .before .before .before); waits = delays-sized (c .before .before .before); voices = rw (c .before .before .before .before .lanes .ensures) (h .voices); delays = rw (c .before .before .before .delays .ensures) (h .delays) };
           glob = rw (c .glob .ensures) (h .glob);
         };
-    is = refl;
-    heard = unwritten _;
+    is = refl {a = first c};
+    put-out = unwritten _;
     shown = unwritten _;
   },
 )
@@ -144,9 +151,6 @@ add-at c = let p = c .before .before .before .before .before .before .before .be
 
 add-to : tie.Need-add-to Inv-loop2 μ-loop2 Inv-loop μ-loop
 add-to c = let p = c .before .before .before .before .before .before .before .before .before .before .before .before .before .before .before .before .before .before .before .before .before .pre .2 in let t = c .before .before .before .before .before .before .before .loop-test .taken in let u = c .before .loop2-test .taken in record { fits = omega (arith, p, t, u) }
-
-bit-requires : tie.Need-bit-requires Inv-loop2 μ-loop2 Inv-loop μ-loop
-bit-requires c κs = c .before .loop2-test .taken
 
 array-read-lane : tie.Need-array-read-lane Inv-loop2 μ-loop2 Inv-loop μ-loop
 array-read-lane c = omega (arith, c .before .before .before .loop2 .inv .1 .fit .waits, c .before .before .loop2-test .taken)
@@ -186,10 +190,12 @@ loop2-again : tie.Need-loop2-again Inv-loop2 μ-loop2 Inv-loop μ-loop
 loop2-again c = let l = c .before .before .before .before .before .before .before .before .before .before .before .before .before .before .loop2 in
     let i = c .before .before .before .before .before .before .before .before .before .before .before .before .before .before .before .before .before .before .before .before .loop .i in
     let t : l .v < 8 = c .before .before .before .before .before .before .before .before .before .before .before .before .before .loop2-test .taken in
+    let worked = rw (mod-eq-of-lt t) at (c .before .before .before .before .before .before .before .before .before .before .before .bit .ensures) in
     let at = i * 36 + l .v * 4 in
     let m = mid-len at (at + 4) (l .sheet) (lane-room (c .before .before .before .before .before .before .before .before .before .before .before .before)) in
-    let e = c .before .before .before .before .before .lane .ensures ∙ (λ k. turned (c .before .before .before .before .before .before .before .before .before .before .before .bit .ensures k) (c .before .before .before .before .before .before .before .before .before .before .before .before .before .before .before .before .shared .result) (c .before .before .before .before .before .before .before .before .before .before .before .before .before .before .before .before .before .before .before .before .loop .ram) (l .v) (getD (l .voices) (l .v) noVoice) (getD (l .delays) (l .v) 0) (l .acc) (l .bytes) (midOf at (at + 4 - at) (l .sheet))) in
-    (search needs, lane-on _ _ _ _ (i * 36) _ (l .v) (l .sheet) (l .voices) (l .delays) (l .bytes) (l .acc) at (at + 4) _ (l .inv .1) t refl refl (m ∙ omega arith) e)
+    let y = c .before .before .before .before .before .lane .ensures in
+    let e = _∙_ {a = y 0} {b = y 1} y (λ k. turned (worked k) (c .before .before .before .before .before .before .before .before .before .before .before .before .before .before .before .before .shared .result) (c .before .before .before .before .before .before .before .before .before .before .before .before .before .before .before .before .before .before .before .before .loop .ram) (l .v) (getD (l .voices) (l .v) noVoice) (getD (l .delays) (l .v) 0) (l .acc) (l .bytes) (midOf at (at + 4 - at) (l .sheet))) in
+    (search needs, lane-on _ _ _ _ (i * 36) _ (l .v) (l .sheet) (l .voices) (l .delays) (l .bytes) (l .acc) at (at + 4) (y 0) (l .inv .1) t refl refl (m ∙ omega arith) e)
 
 mul-at-3 : tie.Need-mul-at-3 Inv-loop2 μ-loop2 Inv-loop μ-loop
 mul-at-3 c = let p = c .before .before .before .before .before .before .before .before .before .before .before .before .before .before .before .before .before .before .before .before .pre .2 in let t = c .before .before .before .before .before .before .loop-test .taken in record { fits = omega (arith, p, t) }
@@ -239,6 +245,7 @@ add-i c = let p = c .before .before .before .before .before .before .before .bef
 loop-again : tie.Need-loop-again Inv-loop2 μ-loop2 Inv-loop μ-loop
 loop-again c = let s = c .before .before .before .before .before .before .before .before .before .before .before .before .before .before .before .before .before .before .before .before .before .before .before .before .loop in
     let l = c .before .before .before .before .before .before .before .before .before .before .before .before .before .before .before .before .before .before .loop2 in
+    let y = c .before .before .before .before .before .before .before .before .before .before .before .before .before .before .echo-lane .ensures in
     let a = s .i * 36 + 32 in
     let o = s .i * 4 in
     let v : l .v ≡ 8 = omega (arith, c .before .before .before .before .before .before .before .before .before .before .before .before .before .before .before .before .before .loop2-test .left, l .inv .0) in
@@ -249,16 +256,16 @@ loop-again c = let s = c .before .before .before .before .before .before .before
     let sr = landed w16 {z = c .before .before .before .before .before .before .mastered .result .r} (c .before .before .before .struct-told2 .given .1 .0 .1) in
     let f = c .before .before .put-pair .ensures ∙ (λ k. pairBytes (sl k) (sr k)) ∙ ap frameOf (c .before .before .before .before .before .before .mastered .ensures) in
     let t : s .i < c .before .before .before .before .before .before .before .before .before .before .before .before .before .before .before .before .before .before .before .before .before .before .before .before .before .before .before .before .before .before .before .before .before .before .before .before .before .args .n = c .before .before .before .before .before .before .before .before .before .before .before .before .before .before .before .before .before .before .before .before .before .before .before .loop-test .taken in
-    (omega (arith, t), tick-on _ _ _ _ (s .i) (s .pcm) (s .sheet) _ (s .ram) _ _ (l .sheet) (l .voices) (l .delays) (l .bytes) (l .acc) a (a + 4) o (o + 4) _ _ (s .inv .1) (c .before .before .before .before .before .before .before .before .before .before .before .before .before .before .before .before .before .before .before .before .before .ticked .ensures) (c .before .before .before .before .before .before .before .before .before .before .before .before .before .before .before .before .before .before .before .before .shared .ensures) z refl refl (m ∙ omega arith) (c .before .before .before .before .before .before .before .before .before .before .before .before .before .before .echo-lane .ensures) refl refl f)
+    (omega (arith, t), tick-on _ _ _ (first (c .before .before .before .before .before .before .before .before .before .before .before .before .before .before .before .before .before .before .before .before .before .before .before .before .before)) (s .i) (s .pcm) (s .sheet) _ (s .ram) _ _ (l .sheet) (l .voices) (l .delays) (l .bytes) (l .acc) a (a + 4) o (o + 4) (y 0) _ (s .inv .1) (c .before .before .before .before .before .before .before .before .before .before .before .before .before .before .before .before .before .before .before .before .before .ticked .ensures) (c .before .before .before .before .before .before .before .before .before .before .before .before .before .before .before .before .before .before .before .before .shared .ensures) z refl refl (m ∙ omega arith) y refl refl f)
 
 same-length : tie.Need-same-length Inv-loop2 μ-loop2 Inv-loop μ-loop
 same-length c = c .before .before .loop .inv .1 .fit .ram ∙ sym (c .before .before .before .before .before .before .before .before .before .before .before .before .before .before .before .pre .0)
 
 same-length-2 : tie.Need-same-length-2 Inv-loop2 μ-loop2 Inv-loop μ-loop
-same-length-2 c = pcm-sized (c .before .before .loop .inv .1) (let p = c .before .before .before .before .before .before .before .before .before .before .before .before .before .before .before .pre .3 in let t = c .before .before .loop .inv .0 in omega (arith, p, t))
+same-length-2 c = sized (c .before .before .loop .inv .1 .put-out) (let p = c .before .before .before .before .before .before .before .before .before .before .before .before .before .before .before .pre .3 in let t = c .before .before .loop .inv .0 in omega (arith, p, t))
 
 same-length-3 : tie.Need-same-length-3 Inv-loop2 μ-loop2 Inv-loop μ-loop
-same-length-3 c = sheet-sized (c .before .before .loop .inv .1) (let p = c .before .before .before .before .before .before .before .before .before .before .before .before .before .before .before .pre .4 in let t = c .before .before .loop .inv .0 in omega (arith, p, t))
+same-length-3 c = sized (c .before .before .loop .inv .1 .shown) (let p = c .before .before .before .before .before .before .before .before .before .before .before .before .before .before .before .pre .4 in let t = c .before .before .loop .inv .0 in omega (arith, p, t))
 
 returns : tie.Need-returns Inv-loop2 μ-loop2 Inv-loop μ-loop
 returns c = let l = c .before .before .loop in
@@ -268,10 +275,10 @@ returns c = let l = c .before .before .loop in
     let n : l .i ≡ a .n = omega (arith, c .before .loop-test .left, l .inv .0) in
     let e₁ : l .i * 4 ≡ length (a .pcm .now) = omega (arith, n, s .pre .3) in
     let e₂ : l .i * 36 ≡ length (a .sheet .now) = omega (arith, n, s .pre .4) in
-    let f = subst Fit (sym (c .with-parts .ensures)) (bench-fit _ (d .fit)) in
-    let e = (λ k. record { parts = apart (c .with-parts .ensures k); ram = l .ram; pcm = all-written (d .heard) e₁ k; sheet = all-written (d .shown) e₂ k; old = sym (drop-of-length-le (a .sheet .now) {i = l .i * 36} (omega (arith, e₂))) k })
-    ∙ d .is
-    ∙ (λ k. ticksOf (a .work) (n k) (benchAt (partsOf (c .before .before .before .before .before .before .before .before .bytes .ensures k) (c .before .before .before .before .before .before .before .lanes .ensures k) (c .before .before .before .before .before .before .delays .ensures k) (a .self .«fir_coeff») (a .self .«fir_history_l») (a .self .«fir_history_r») (c .before .before .before .glob .ensures k)) (a .ram .now) [] [] (a .sheet .now))) in
+    let p = c .with-parts .ensures in
+    let f = subst Fit {x = p 1} (sym {b = p 1} p) (bench-fit _ (d .fit)) in
+    let e = _∙_ {b = d .is 0} (λ k. record { parts = apart (p k); ram = l .ram; pcm = all-written (d .put-out) e₁ k; sheet = all-written (d .shown) e₂ k; old = sym (drop-of-length-le (a .sheet .now) {i = l .i * 36} (omega (arith, e₂))) k })
+    (_∙_ {b = d .is 1} (d .is) (λ k. ticksOf (a .work) (n k) (benchAt (partsOf (c .before .before .before .before .before .before .before .before .bytes .ensures k) (c .before .before .before .before .before .before .before .lanes .ensures k) (c .before .before .before .before .before .before .delays .ensures k) (a .self .«fir_coeff») (a .self .«fir_history_l») (a .self .«fir_history_r») (c .before .before .before .glob .ensures k)) (a .ram .now) [] [] (a .sheet .now)))) in
     (e, f)
 
 pub drive-spec : {M : Type 1} → statement M
@@ -302,7 +309,7 @@ drive-spec =
     mul-at-2
     add-at
     add-to
-    bit-requires
+    (λ c κs. tt)
     array-read-lane
     slice-aggregate-lane
     slice-aggregate-lane-2

@@ -24,8 +24,9 @@ returns-2 : tie.Need-returns-2
 unfolding stepOf ticksOf benchTick
 returns-2 c = let e : length (c .before .before .before .before .before .before .before .before .before .before .before .before .args .ram .now) ≡ 0x10000 = omega (arith, c .before .before .before .before .before .before .before .before .before .before .if1 .left) in
     let a = c .before .before .before .before .before .before .before .before .before .before .before .before .args in
+    let d = c .before .before .before .before .drive .ensures .0 in
     let after : Bench → After = (λ (b : Bench). record { refusal = 0; dsp = together (b .parts); ram = b .ram }) in
-    rw (eq-eqb _ _ e, ← c .before .before .before .before .before .before .before .before .before .is-fit .ensures, c .before .before .before .before .before .before .before .before .if2 .taken) (ap after (c .before .before .before .before .drive .ensures .0) ∙ ap ticked (tick-whole _ [] (apart (a .self)) (a .ram .now)))
+    rw (eq-eqb _ _ e, ← c .before .before .before .before .before .before .before .before .before .is-fit .ensures, c .before .before .before .before .before .before .before .before .if2 .taken) (_∙_ {b = after (d 1)} (λ i. after (d i)) (ap ticked (tick-whole _ [] (apart (a .self)) (a .ram .now))))
 
 returns-3 : tie.Need-returns-3
 unfolding stepOf

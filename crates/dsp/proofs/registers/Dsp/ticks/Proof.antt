@@ -47,7 +47,7 @@ returns-5 c =
     let e : length (c .before .before .before .before .before .before .before .before .before .before .before .before .before .before .before .before .before .before .args .ram .now) ≡ 0x10000 = omega (arith, c .before .before .before .before .before .before .before .before .before .before .before .before .before .before .if1 .left) in
     let f = sym (c .before .before .before .before .before .before .before .before .before .before .before .before .before .is-fit .ensures) ∙ not-false _ (c .before .before .before .before .before .before .before .before .before .before .before .before .if2 .left) in
     let d = c .before .before .before .before .before .before .drive .ensures in
-    (rw (eq-eqb _ _ e, f, eq-eqb _ _ (c .before .before .before .before .before .before .before .before .before .before .before .if3 .left), eq-eqb _ _ (c .before .before .before .before .before .before .before .before .before .before .if4 .left)) (ap drove (d .0)), facts-fit _ (d .1) ∙ sym f)
+    (rw (eq-eqb _ _ e, f, eq-eqb _ _ (c .before .before .before .before .before .before .before .before .before .before .before .if3 .left), eq-eqb _ _ (c .before .before .before .before .before .before .before .before .before .before .if4 .left)) (λ i. drove (d .0 i)), facts-fit _ (d .1) ∙ sym f)
 
 pub ticks-spec : {M : Type 1} → statement M
 ticks-spec =

@@ -24,7 +24,8 @@ returns c = let s = c .before .before .before .before .before .before .before .b
     let a = s .args in
     let p = s .pre in
     let l = p .4 in
-    sound-is _ (a .n) (a .self .dsp) (a .self .at) (a .self .left) (a .ram .now) (a .pcm .now) _ _ _ (c .before .before .before .before .before .before .before .before .before .before .before .before .everything .ensures) (p .0) (p .1) (p .3) (rows-sized (c .before .before .before .before .before .before .before .before .before .before .before .before .before .before) (a .n) (omega (arith, l))) (c .before .before .before .before .before .before .before .before .ticks .ensures .0) (c .told .ensures)
+    let x = c .before .before .before .before .before .before .before .before .ticks .ensures .0 in
+    sound-is _ (a .n) (a .self .dsp) (a .self .at) (a .self .left) (a .ram .now) (a .pcm .now) _ (x 0) _ (c .before .before .before .before .before .before .before .before .before .before .before .before .everything .ensures) (p .0) (p .1) (p .3) (rows-sized (c .before .before .before .before .before .before .before .before .before .before .before .before .before .before) (a .n) (omega (arith, l))) x (c .told .ensures)
 
 pub sounded-spec : {M : Type 1} → statement M
 sounded-spec =

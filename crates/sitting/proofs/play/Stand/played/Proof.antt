@@ -5,7 +5,7 @@ use Prim.Native.Nat.{_+_, _*_, _≤_, _<_}
 use native.Mathlib.Omega.{arith}
 use lib.ListN.{length}
 use Rattle.log.specs.Log.{Known}
-use Rattle.log.specs.Measure.{ticksOf as ticksIn, readingsOf as readingsIn}
+use Rattle.log.specs.Measure.{ticksIn, readingsIn}
 use Rattle.log.specs.declared.Record.{Record}
 use Rattle.sitting.proofs.Plays.{wrote, sounded, seen}
 use Rattle.sitting.proofs.play.Stand.played.Statement.{statement}

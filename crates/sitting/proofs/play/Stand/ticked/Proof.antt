@@ -13,7 +13,7 @@ returns c = let s = c .before .before .before .before .before .before .before .b
     let p = s .pre in
     let k = c .before .before .before .before .before .before .before .before .ticks .kept in
     let e = c .before .before .before .before .before .before .before .before .ticks .ensures in
-    let b = batch (a .work) (a .count) (a .self .dsp) (a .ram .now) (a .pcm .now) (a .sheet .now) (a .self .ticks) _ (p .0) (p .1) (omega (arith, p .3)) (omega (arith, p .4)) (e .0) (k .1 .1 .1 .1 .0) (k .1 .1 .1 .1 .1 .0) in
+    let b = batch (a .work) (a .count) (a .self .dsp) (a .ram .now) (a .pcm .now) (a .sheet .now) (a .self .ticks) (e .0 0) (p .0) (p .1) (omega (arith, p .3)) (omega (arith, p .4)) (e .0) (k .1 .1 .1 .1 .0) (k .1 .1 .1 .1 .1 .0) in
     (b, fit-facts _ (e .1 ∙ facts-fit _ (p .1)), refl, refl)
 
 pub ticked-spec : {M : Type 1} → statement M

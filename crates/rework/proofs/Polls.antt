@@ -1,0 +1,352 @@
+-- Every voice polled first, then the noise, then the voices: the same tick as `tickOf`, which polls each voice in its lane. A poll of a voice
+-- passes over the steps of the voices before it, and with its own step makes its turn.
+use mathlib.Core.Bool.{Bool, true, false, not, _&&_}
+use mathlib.Core.List.{List, [], _∷_, _++_}
+use mathlib.Core.Logic.{_≢_}
+use mathlib.Core.Path.{_≡_, refl, sym, ap, subst, _∙_}
+use Prim.Native.Nat.{ℕ, zero, suc, _+_, _*_, _^_, _≤_, _<_}
+use native.Mathlib.Nat.{zero-div}
+use native.Mathlib.Omega.{arith}
+use native.Mathlib.Decide.{ℕ-discrete}
+use lib.IntN.{ℤ}
+use lib.ListN.{getD, set, length, length-set}
+use lib.Seq.{getD-set-same, getD-set-other}
+use Rattle.numbers.specs.Choice.{if_then_else_}
+use Rattle.numbers.specs.Signed.{highZ}
+use Rattle.numbers.proofs.Choice.{chosen}
+use Rattle.numbers.specs.Bits.{bit, withBit}
+use Rattle.dsp.specs.Machine.{noVoice, apart}
+use Rattle.dsp.specs.Envelope.{isOff}
+use Rattle.dsp.specs.Voice.{withKey}
+use Rattle.dsp.specs.Registers.{turns}
+use Rattle.dsp.specs.Sheet.{laneBytes}
+use Rattle.dsp.specs.Lane.{settingsOf, playOf, voiceOf, keyedOff, keyedOn, delayOf, waited, sourceOf, Cell, polledOf, waitedOf, cellAfter, cellOf, putEndx, putBytes, added, ownCell, turned}
+use Rattle.dsp.specs.Tick.{Round, turn, voicesTick, globTick, sharedFrom, sharedOf, startOf, tickOf}
+use Rattle.dsp.specs.declared.adsr.EnvelopePhase.the-variants.{Release}
+use Rattle.dsp.specs.declared.lane.Shared.{Shared}
+use Rattle.dsp.specs.declared.voice.Voice.{Voice}
+use Rattle.dsp.specs.declared.play.Play.{Play}
+use Rattle.dsp.proofs.Turns.{turns-keep, turns-same}
+use Rattle.dsp.proofs.Whole.{full, tick-whole}
+use Rattle.rework.specs.Order.{polledVoice, Polled, pollOne, polledParts, echoBehind, PollFirst}
+use Rattle.rework.proofs.Shows.{put-sized, put-endx}
+use Rattle.rework.proofs.Bits.{bit-here, bit-there, with-byte, byte-ext}
+
+-- ---- stores
+
+set-set : {A : Type 0} (xs : List A) (n : ℕ) (x y : A) → set (set xs n x) n y ≡ set xs n y
+set-set [] n x y = refl
+set-set (z ∷ xs) zero x y = refl
+set-set (z ∷ xs) (suc n) x y = ap (λ (l : List _). z ∷ l) (set-set xs n x y)
+
+set-swap : {A : Type 0} (xs : List A) (n m : ℕ) (x y : A) → n ≢ m → set (set xs n x) m y ≡ set (set xs m y) n x
+set-swap [] n m x y h = refl
+set-swap (z ∷ xs) zero zero x y h = absurd (h refl)
+set-swap (z ∷ xs) zero (suc m) x y h = refl
+set-swap (z ∷ xs) (suc n) zero x y h = refl
+set-swap (z ∷ xs) (suc n) (suc m) x y h = ap (λ (l : List _). z ∷ l) (set-swap xs n m x y (λ e. h (ap suc e)))
+
+-- ---- bits of a byte
+
+with-over : (x n : ℕ) (a b : Bool) → x < 256 → n < 8 → withBit (withBit x n a) n b ≡ withBit x n b
+with-over x n a b l m =
+    byte-ext _ _ (with-byte (withBit x n a) n b (with-byte x n a l m) m) (with-byte x n b l m)
+    (λ k h. elim (ℕ-discrete k n) [
+      | yes p ↦ rw p (bit-here (withBit x n a) n b m ∙ sym (bit-here x n b m))
+      | no p ↦ bit-there (withBit x n a) n k b m h p ∙ bit-there x n k a m h p ∙ sym (bit-there x n k b m h p)
+    ])
+
+with-swap : (x n j : ℕ) (a b : Bool) → x < 256 → n < 8 → j < 8 → n ≢ j → withBit (withBit x j a) n b ≡ withBit (withBit x n b) j a
+with-swap x n j a b l m q d =
+    byte-ext _ _ (with-byte (withBit x j a) n b (with-byte x j a l q) m) (with-byte (withBit x n b) j a (with-byte x n b l m) q)
+    (λ k h. elim (ℕ-discrete k n) [
+      | yes p ↦
+          rw p (bit-here (withBit x j a) n b m ∙ sym (bit-there (withBit x n b) j n a q m d ∙ bit-here x n b m))
+      | no p ↦
+          bit-there (withBit x j a) n k b m h p
+          ∙ elim (ℕ-discrete k j) [
+            | yes e ↦ rw e (bit-here x j a q ∙ sym (bit-here (withBit x n b) j a q))
+            | no e ↦ bit-there x j k a q h e ∙ sym (bit-there (withBit x n b) j k a q h e ∙ bit-there x n k b m h p)
+          ]
+    ])
+
+-- ---- a poll, and the step behind it
+
+-- Release, by a test
+off-play : (b e : Bool) (v : Voice)
+    → (let released : Play → Play = (λ p. withKey p false (record { level = p .envelope .level; phase = Release; counter = p .envelope .counter })) in
+    playOf e (voiceOf v (if b then released (playOf false v) else playOf false v) (v .brr .«sample_buffer»)) ≡ (if b then released (playOf e v) else playOf e v))
+off-play true e v = refl
+off-play false e v = refl
+
+-- the play of a polled voice: ENDX goes with the register
+polled-play : (off on : Bool) (dir : ℕ) (v : Voice) (e : Bool) → playOf (if on then false else e) (polledVoice off on dir v) ≡ keyedOn on dir (v .srcn) (keyedOff off (playOf e v))
+unfolding keyedOn keyedOff
+polled-play off true dir v e = refl
+polled-play off false dir v e = off-play (off && not (isOff (v .adsr .«envelope_phase»))) e v
+
+-- what all voices see, behind the poll
+abbrev behind : Shared → Shared
+behind c = record { koff = 0; kon = 0; «dir_base» = c .«dir_base»; dir = c .dir; non = c .non; pmon = c .pmon; eon = c .eon; noise = c .noise }
+
+no-bit : (n : ℕ) → bit 0 n ≡ false
+no-bit n = rw (zero-div (2 ^ n))
+
+module _ (c : Shared) (ram : List ℕ) where
+  abbrev off : ℕ → Bool
+  off j = bit (c .koff) j
+
+  abbrev on : ℕ → Bool
+  on j = bit (c .kon) j
+
+  -- a voice that was polled steps as one that polls itself
+  cell-behind : (n : ℕ) (prev : ℤ) (v : Voice) (delay srcn envx : ℕ) (e : Bool)
+      → cellOf (behind c) ram n prev (polledVoice (off n) (on n) (c .«dir_base») v) (delayOf (on n) delay) srcn envx (if on n then false else e) ≡ cellOf c ram n prev v delay srcn envx e
+  unfolding cellOf cellAfter waitedOf polledOf keyedOff keyedOn
+  cell-behind n prev v delay srcn envx e =
+      let w = polledVoice (off n) (on n) (c .«dir_base») v in
+      let p = playOf (if on n then false else e) w in
+      let by : ℕ → Play → Cell = (λ d q. cellAfter c n v (waited ram (c .dir) srcn (settingsOf v) (v .pitch) (sourceOf (c .pmon) n prev) envx d (record { play = q; samples = v .brr .«sample_buffer» }))) in
+      ap (λ (b : Bool). by (delayOf b (delayOf (on n) delay)) (keyedOn b (c .«dir_base») (w .srcn) (keyedOff b p))) (no-bit n)
+      ∙ ap (by (delayOf (on n) delay)) (polled-play (off n) (on n) (c .«dir_base») v e)
+
+  -- ---- rounds
+
+  -- what a cell of voice n leaves of a round
+  abbrev put : ℕ → Round → Cell → Round
+  put n r x =
+      record {
+        voices = set (r .voices) n (x .voice);
+        delays = set (r .delays) n (x .delay);
+        bytes = putBytes n (x .envx) (x .out) (x .endx) (r .bytes);
+        acc = added (bit (c .eon) n) (x .out) (x .voice .«left_vol») (x .voice .«right_vol») (r .acc);
+        row = r .row ++ laneBytes (x .out) (x .envx) (x .endx);
+      }
+
+  -- a turn in which the voice polls itself, and one behind the poll
+  abbrev whole : ℕ → Round → Round
+  whole n r = put n r (ownCell c ram n (r .acc .prev) (getD (r .voices) n noVoice) (getD (r .delays) n 0) (r .bytes))
+
+  abbrev step : ℕ → Round → Round
+  step n r = put n r (ownCell (behind c) ram n (r .acc .prev) (getD (r .voices) n noVoice) (getD (r .delays) n 0) (r .bytes))
+
+  turn-is : (old : List ℕ) (n : ℕ) (r : Round) → n < 8 → turn 0xFF old c ram n r ≡ whole n r
+  unfolding turn turned
+  turn-is old n r l = rw (full n l)
+
+  step-is : (old : List ℕ) (n : ℕ) (r : Round) → n < 8 → turn 0xFF old (behind c) ram n r ≡ step n r
+  unfolding turn turned
+  step-is old n r l = rw (full n l)
+
+  -- the poll of voice j in a round
+  abbrev in-round : Round → Polled → Round
+  in-round r p = record { voices = p .voices; delays = p .delays; bytes = p .registers; acc = r .acc; row = r .row }
+
+  abbrev of-round : Round → Polled
+  of-round r = record { voices = r .voices; delays = r .delays; registers = r .bytes }
+
+  abbrev poll : ℕ → Round → Round
+  poll j r = in-round r (pollOne (c .koff) (c .kon) (c .«dir_base») j (of-round r))
+
+  record Sized (r : Round) : Type 0 where
+    voices : length (r .voices) ≡ 8
+    delays : length (r .delays) ≡ 8
+    bytes : length (r .bytes) ≡ 128
+    endx : getD (r .bytes) 0x7C 0 < 256
+
+  -- ---- the registers
+
+  -- ENVX and OUTX of voice n
+  abbrev outs : ℕ → ℕ → ℤ → List ℕ → List ℕ
+  outs n envx out bytes = set (set bytes (n * 16 + 8) envx) (n * 16 + 9) (highZ out)
+
+  -- ENVX, OUTX and the ENDX bit, over any ENDX byte w
+  put-over : (n envx : ℕ) (out : ℤ) (endx : Bool) (bytes : List ℕ) (w : ℕ) → n < 8 → length bytes ≡ 128
+      → putBytes n envx out endx (set bytes 0x7C w) ≡ set (outs n envx out bytes) 0x7C (withBit w n endx)
+  unfolding putBytes
+  put-over n envx out endx bytes w l z =
+      let o = outs n envx out bytes in
+      let e : outs n envx out (set bytes 0x7C w) ≡ set o 0x7C w =
+      ap (λ (xs : List ℕ). set xs (n * 16 + 9) (highZ out)) (set-swap bytes 0x7C (n * 16 + 8) w envx (λ q. absurd (omega (arith, l, q))))
+      ∙ set-swap (set bytes (n * 16 + 8) envx) 0x7C (n * 16 + 9) w (highZ out) (λ q. absurd (omega (arith, l, q))) in
+      let s : length o ≡ 128 = length-set (set bytes (n * 16 + 8) envx) (n * 16 + 9) (highZ out) ∙ length-set bytes (n * 16 + 8) envx ∙ z in
+      ap (λ (xs : List ℕ). set xs 0x7C (withBit (getD xs 0x7C 0) n endx)) e
+      ∙ set-set o 0x7C w (withBit (getD (set o 0x7C w) 0x7C 0) n endx)
+      ∙ ap (λ (x : ℕ). set o 0x7C (withBit x n endx)) (getD-set-same o 0x7C w 0 (omega (arith, s)))
+
+  put-is : (n envx : ℕ) (out : ℤ) (endx : Bool) (bytes : List ℕ) → n < 8 → putBytes n envx out endx bytes ≡ set (outs n envx out bytes) 0x7C (withBit (getD bytes 0x7C 0) n endx)
+  unfolding putBytes
+  put-is n envx out endx bytes l =
+      ap (λ (x : ℕ). set (outs n envx out bytes) 0x7C (withBit x n endx))
+      (getD-set-other (set bytes (n * 16 + 8) envx) (n * 16 + 9) 0x7C (highZ out) 0 (λ q. absurd (omega (arith, l, q)))
+      ∙ getD-set-other bytes (n * 16 + 8) 0x7C envx 0 (λ q. absurd (omega (arith, l, q))))
+
+  -- the poll of the voice itself, under its step
+  put-own : (b : Bool) (n envx : ℕ) (out : ℤ) (endx : Bool) (bytes : List ℕ) → n < 8 → length bytes ≡ 128 → getD bytes 0x7C 0 < 256
+      → putBytes n envx out endx (if b then putEndx n false bytes else bytes) ≡ putBytes n envx out endx bytes
+  put-own true n envx out endx bytes l z h =
+      put-over n envx out endx bytes (withBit (getD bytes 0x7C 0) n false) l z
+      ∙ ap (set (outs n envx out bytes) 0x7C) (with-over (getD bytes 0x7C 0) n false endx h l) ∙ sym (put-is n envx out endx bytes l)
+  put-own false n envx out endx bytes l z h = refl
+
+  -- the poll of another passes over it
+  put-past : (b : Bool) (n j envx : ℕ) (out : ℤ) (endx : Bool) (bytes : List ℕ) → n < 8 → j < 8 → n ≢ j → length bytes ≡ 128 → getD bytes 0x7C 0 < 256
+      → putBytes n envx out endx (if b then putEndx j false bytes else bytes) ≡ (if b then putEndx j false (putBytes n envx out endx bytes) else putBytes n envx out endx bytes)
+  put-past true n j envx out endx bytes l m d z h =
+      let x = getD bytes 0x7C 0 in
+      let o = outs n envx out bytes in
+      let s : length o ≡ 128 = length-set (set bytes (n * 16 + 8) envx) (n * 16 + 9) (highZ out) ∙ length-set bytes (n * 16 + 8) envx ∙ z in
+      put-over n envx out endx bytes (withBit x j false) l z
+      ∙ ap (set o 0x7C) (with-swap x n j false endx h l m d)
+      ∙ sym
+      (ap (putEndx j false) (put-is n envx out endx bytes l)
+      ∙ set-set o 0x7C (withBit x n endx) (withBit (getD (set o 0x7C (withBit x n endx)) 0x7C 0) j false)
+      ∙ ap (λ (y : ℕ). set o 0x7C (withBit y j false)) (getD-set-same o 0x7C (withBit x n endx) 0 (omega (arith, s))))
+  put-past false n j envx out endx bytes l m d z h = refl
+
+  -- ---- what a poll leaves of the registers
+
+  -- any byte but ENDX
+  poll-byte : (b : Bool) (j i : ℕ) (bytes : List ℕ) → i ≢ 0x7C → getD (if b then putEndx j false bytes else bytes) i 0 ≡ getD bytes i 0
+  poll-byte true j i bytes h = getD-set-other bytes 0x7C i (withBit (getD bytes 0x7C 0) j false) 0 h
+  poll-byte false j i bytes h = refl
+
+  poll-own : (b : Bool) (n : ℕ) (bytes : List ℕ) → n < 8 → length bytes ≡ 128
+      → bit (getD (if b then putEndx n false bytes else bytes) 0x7C 0) n ≡ (if b then false else bit (getD bytes 0x7C 0) n)
+  poll-own true n bytes l z =
+      ap (λ (x : ℕ). bit x n) (getD-set-same bytes 0x7C (withBit (getD bytes 0x7C 0) n false) 0 (omega (arith, z))) ∙ bit-here (getD bytes 0x7C 0) n false l
+  poll-own false n bytes l z = refl
+
+  poll-past : (b : Bool) (n j : ℕ) (bytes : List ℕ) → n < 8 → j < 8 → n ≢ j → length bytes ≡ 128
+      → bit (getD (if b then putEndx j false bytes else bytes) 0x7C 0) n ≡ bit (getD bytes 0x7C 0) n
+  poll-past true n j bytes l m d z =
+      ap (λ (x : ℕ). bit x n) (getD-set-same bytes 0x7C (withBit (getD bytes 0x7C 0) j false) 0 (omega (arith, z))) ∙ bit-there (getD bytes 0x7C 0) j n false m l d
+  poll-past false n j bytes l m d z = refl
+
+  -- ---- lengths
+
+  sized-put : (n : ℕ) (r : Round) (x : Cell) → n < 8 → Sized r → Sized (put n r x)
+  sized-put n r x l h =
+      record {
+        voices = length-set (r .voices) n (x .voice) ∙ h .voices;
+        delays = length-set (r .delays) n (x .delay) ∙ h .delays;
+        bytes = put-sized n (x .envx) (x .out) (x .endx) (r .bytes) l (h .bytes);
+        endx = subst (λ (y : ℕ). y < 256) (sym (put-endx n (x .envx) (x .out) (x .endx) (r .bytes) l (h .bytes))) (with-byte (getD (r .bytes) 0x7C 0) n (x .endx) (h .endx) l);
+      }
+
+  sized-poll : (j : ℕ) (r : Round) → j < 8 → Sized r → Sized (poll j r)
+  sized-poll j r l h =
+      let w = withBit (getD (r .bytes) 0x7C 0) j false in
+      record {
+        voices = length-set (r .voices) j _ ∙ h .voices;
+        delays = length-set (r .delays) j _ ∙ h .delays;
+        bytes = chosen (λ (xs : List ℕ). length xs ≡ 128) (on j) (length-set (r .bytes) 0x7C w ∙ h .bytes) (h .bytes);
+        endx =
+            chosen (λ (xs : List ℕ). getD xs 0x7C 0 < 256) (on j)
+            (subst (λ (y : ℕ). y < 256) (sym (getD-set-same (r .bytes) 0x7C w 0 (omega (arith, h .bytes)))) (with-byte (getD (r .bytes) 0x7C 0) j false (h .endx) l)) (h .endx);
+      }
+
+  -- ---- a poll and a step
+
+  -- of the voice itself
+  fused : (n : ℕ) (r : Round) → n < 8 → Sized r → step n (poll n r) ≡ whole n r
+  unfolding ownCell
+  fused n r l h =
+      let b = r .bytes in
+      let v = getD (r .voices) n noVoice in
+      let w = polledVoice (off n) (on n) (c .«dir_base») v in
+      let d = delayOf (on n) (getD (r .delays) n 0) in
+      let ev = getD-set-same (r .voices) n w noVoice (omega (arith, h .voices)) in
+      let ed = getD-set-same (r .delays) n d 0 (omega (arith, h .delays)) in
+      let es = poll-byte (on n) n (n * 16 + 4) b (λ q. absurd (omega (arith, l, q))) in
+      let ex = poll-byte (on n) n (n * 16 + 8) b (λ q. absurd (omega (arith, l, q))) in
+      let ee = poll-own (on n) n b l (h .bytes) in
+      let x = ownCell c ram n (r .acc .prev) v (getD (r .delays) n 0) b in
+      ap (put n (poll n r))
+      ((λ i. cellOf (behind c) ram n (r .acc .prev) (ev i) (ed i) (es i) (ex i) (ee i))
+      ∙ cell-behind n (r .acc .prev) v (getD (r .delays) n 0) (getD b (n * 16 + 4) 0) (getD b (n * 16 + 8) 0) (bit (getD b 0x7C 0) n))
+      ∙ (λ i. record {
+        voices = set-set (r .voices) n w (x .voice) i;
+        delays = set-set (r .delays) n d (x .delay) i;
+        bytes = put-own (on n) n (x .envx) (x .out) (x .endx) b l (h .bytes) (h .endx) i;
+        acc = whole n r .acc;
+        row = whole n r .row;
+      })
+
+  -- of another voice, behind it
+  passed : (n j : ℕ) (r : Round) → n < j → j < 8 → Sized r → step n (poll j r) ≡ poll j (step n r)
+  unfolding ownCell
+  passed n j r q m h =
+      let b = r .bytes in
+      let l : n < 8 = omega arith in
+      let far : n ≢ j = (λ e. absurd (omega (arith, q, e))) in
+      let w : Voice → Voice = polledVoice (off j) (on j) (c .«dir_base») in
+      let ev = getD-set-other (r .voices) j n (w (getD (r .voices) j noVoice)) noVoice far in
+      let ed = getD-set-other (r .delays) j n (delayOf (on j) (getD (r .delays) j 0)) 0 far in
+      let es = poll-byte (on j) j (n * 16 + 4) b (λ e. absurd (omega (arith, l, e))) in
+      let ex = poll-byte (on j) j (n * 16 + 8) b (λ e. absurd (omega (arith, l, e))) in
+      let ee = poll-past (on j) n j b l m far (h .bytes) in
+      let x = ownCell (behind c) ram n (r .acc .prev) (getD (r .voices) n noVoice) (getD (r .delays) n 0) b in
+      let back : j ≢ n = (λ e. far (sym e)) in
+      ap (put n (poll j r)) (λ i. cellOf (behind c) ram n (r .acc .prev) (ev i) (ed i) (es i) (ex i) (ee i))
+      ∙ (λ i. record {
+        voices =
+            (set-swap (r .voices) j n (w (getD (r .voices) j noVoice)) (x .voice) back
+            ∙ ap (λ (v : Voice). set (set (r .voices) n (x .voice)) j (w v)) (sym (getD-set-other (r .voices) n j (x .voice) noVoice back))) i;
+        delays =
+            (set-swap (r .delays) j n (delayOf (on j) (getD (r .delays) j 0)) (x .delay) back
+            ∙ ap (λ (v : ℕ). set (set (r .delays) n (x .delay)) j (delayOf (on j) v)) (sym (getD-set-other (r .delays) n j (x .delay) 0 back))) i;
+        bytes = put-past (on j) n j (x .envx) (x .out) (x .endx) b l m far (h .bytes) (h .endx) i;
+        acc = step n r .acc;
+        row = step n r .row;
+      })
+
+  -- ---- all voices
+
+  -- k polls, from voice n on
+  abbrev rest : ℕ → ℕ → Round → Round
+  rest zero n r = r
+  rest (suc k) n r = rest k (suc n) (poll n r)
+
+  rest-passed : (k m n : ℕ) (r : Round) → n < m → m + k ≤ 8 → Sized r → step n (rest k m r) ≡ rest k m (step n r)
+  rest-passed zero m n r q l h = refl
+  rest-passed (suc k) m n r q l h =
+      rest-passed k (suc m) n (poll m r) (omega arith) (omega arith) (sized-poll m r (omega arith) h) ∙ ap (rest k (suc m)) (passed n m r q (omega arith) h)
+
+  -- n steps behind all polls are n turns that poll themselves, and the polls of the others
+  steps-turns : (n k : ℕ) (r : Round) → k + n ≡ 8 → Sized r → turns step n (rest 8 0 r) ≡ rest k n (turns whole n r)
+  unfolding turns
+  steps-turns zero k r e h = let f : 8 ≡ k = omega (arith, e) in ap (λ (i : ℕ). rest i 0 r) f
+  steps-turns (suc n) k r e h =
+      let a = turns whole n r in
+      let s = turns-keep Sized whole 8 (λ j t l i. sized-put j t _ l i) n r (omega (arith, e)) h in
+      ap (step n) (steps-turns n (suc k) r (omega (arith, e)) h)
+      ∙ rest-passed k (suc n) n (poll n a) (omega arith) (omega (arith, e)) (sized-poll n a (omega (arith, e)) s)
+      ∙ ap (rest k (suc n)) (fused n a (omega (arith, e)) s)
+
+  polls-first : (r : Round) → Sized r → turns (turn 0xFF [] (behind c) ram) 8 (rest 8 0 r) ≡ turns (turn 0xFF [] c ram) 8 r
+  polls-first r h =
+      turns-same (turn 0xFF [] (behind c) ram) step 8 (λ n s l. step-is [] n s l) 8 (rest 8 0 r) (omega arith)
+      ∙ steps-turns 8 0 r (omega arith) h
+      ∙ sym (turns-same (turn 0xFF [] c ram) whole 8 (λ n s l. turn-is [] n s l) 8 r (omega arith))
+
+-- ---- the tick
+
+-- no poll moves the DIR byte
+dir-kept : (koff kon dir : ℕ) (p : Polled) → getD (turns (pollOne koff kon dir) 8 p .registers) 0x5D 0 ≡ getD (p .registers) 0x5D 0
+dir-kept koff kon dir p =
+    turns-keep (λ (q : Polled). getD (q .registers) 0x5D 0 ≡ getD (p .registers) 0x5D 0) (pollOne koff kon dir) 8
+    (λ j q l h. chosen (λ (xs : List ℕ). getD xs 0x5D 0 ≡ getD (p .registers) 0x5D 0) (bit kon j) (getD-set-other (q .registers) 0x7C 0x5D _ 0 (λ e. absurd (omega (arith, e))) ∙ h) h)
+    8 p (omega arith) refl
+
+pub poll-first : PollFirst
+unfolding tickOf voicesTick globTick sharedFrom turns
+poll-first d ram old v =
+    let p = apart d in
+    let c = sharedOf (p .glob) (p .registers) in
+    let h : Sized c ram (startOf p) = record { voices = v .voices; delays = v .delays; bytes = v .registers; endx = v .bytes 0x7C } in
+    let q = polledParts p in
+    let seen : ℕ → Shared = (λ dir. record { koff = 0; kon = 0; «dir_base» = c .«dir_base»; dir = dir; non = c .non; pmon = c .pmon; eon = c .eon; noise = c .noise }) in
+    let e = dir-kept (c .koff) (c .kon) (c .«dir_base») (record { voices = p .voices; delays = p .delays; registers = p .registers }) in
+    tick-whole old [] p ram
+    ∙ ap (echoBehind p ram (globTick (p .glob))) (sym (polls-first c ram (startOf p) h) ∙ (λ i. turns (turn 0xFF [] (seen (sym e i)) ram) 8 (startOf q)))

@@ -1,0 +1,106 @@
+-- A tick's row is what the record shows after it.
+use mathlib.Core.Bool.{Bool}
+use mathlib.Core.List.{List, _++_}
+use mathlib.Core.Logic.{_≢_}
+use mathlib.Core.Path.{_≡_, refl, sym, ap, _∙_}
+use Prim.Native.Nat.{ℕ, zero, suc, _+_, _*_, _≤_, _<_}
+use native.Mathlib.Omega.{arith}
+use lib.IntN.{ℤ}
+use lib.ListN.{getD, set, length, length-set}
+use lib.Seq.{getD-set-same, getD-set-other}
+use Rattle.numbers.specs.Signed.{highZ}
+use Rattle.numbers.specs.Bits.{bit, withBit}
+use Rattle.dsp.specs.Machine.{noVoice, apart}
+use Rattle.dsp.specs.Mix.{outputOf}
+use Rattle.dsp.specs.Registers.{turns}
+use Rattle.dsp.specs.Sheet.{laneBytes, pairBytes}
+use Rattle.dsp.specs.Echo.{echoTick, echoMoved, echoLane}
+use Rattle.dsp.specs.Lane.{putBytes, cellAfter, cellOf, ownCell, turned}
+use Rattle.dsp.specs.Tick.{Round, turn, voicesTick, everything, startOf, sharedOf, tickOf}
+use Rattle.dsp.specs.declared.lane.Shared.{Shared}
+use Rattle.dsp.specs.declared.voice.Voice.{Voice}
+use Rattle.dsp.proofs.Whole.{full}
+use Rattle.rework.specs.Shown.{lanesOf, RowShows}
+use Rattle.rework.proofs.Bits.{bit-here, bit-there}
+
+-- ---- a voice's registers, after ENVX, OUTX and the ENDX bit of voice n were put
+
+module _ (n envx : ℕ) (out : ℤ) (endx : Bool) (bytes : List ℕ) (l : n < 8) (sized : length bytes ≡ 128) where
+  abbrev shown : List ℕ
+  shown = set (set bytes (n * 16 + 8) envx) (n * 16 + 9) (highZ out)
+
+  -- any other register but ENDX
+  put-other : (i : ℕ) → i ≢ n * 16 + 8 → i ≢ n * 16 + 9 → getD shown i 0 ≡ getD bytes i 0
+  put-other i a b = getD-set-other (set bytes (n * 16 + 8) envx) (n * 16 + 9) i (highZ out) 0 b ∙ getD-set-other bytes (n * 16 + 8) i envx 0 a
+
+  pub put-envx : getD (putBytes n envx out endx bytes) (n * 16 + 8) 0 ≡ envx
+  unfolding putBytes
+  put-envx =
+      getD-set-other shown 0x7C (n * 16 + 8) _ 0 (λ e. absurd (omega (arith, l, e)))
+      ∙ getD-set-other (set bytes (n * 16 + 8) envx) (n * 16 + 9) (n * 16 + 8) (highZ out) 0 (λ e. absurd (omega (arith, e)))
+      ∙ getD-set-same bytes (n * 16 + 8) envx 0 (omega (arith, sized))
+
+  pub put-there : (i : ℕ) → i ≢ n * 16 + 8 → i ≢ n * 16 + 9 → i ≢ 0x7C → getD (putBytes n envx out endx bytes) i 0 ≡ getD bytes i 0
+  unfolding putBytes
+  put-there i a b c = getD-set-other shown 0x7C i _ 0 c ∙ put-other i a b
+
+  shown-sized : length shown ≡ 128
+  shown-sized = length-set (set bytes (n * 16 + 8) envx) (n * 16 + 9) (highZ out) ∙ length-set bytes (n * 16 + 8) envx ∙ sized
+
+  pub put-sized : length (putBytes n envx out endx bytes) ≡ 128
+  unfolding putBytes
+  put-sized = length-set shown 0x7C (withBit (getD shown 0x7C 0) n endx) ∙ shown-sized
+
+  pub put-endx : getD (putBytes n envx out endx bytes) 0x7C 0 ≡ withBit (getD bytes 0x7C 0) n endx
+  unfolding putBytes
+  put-endx =
+      getD-set-same shown 0x7C (withBit (getD shown 0x7C 0) n endx) 0 (omega (arith, shown-sized))
+      ∙ ap (λ (x : ℕ). withBit x n endx) (put-other 0x7C (λ e. absurd (omega (arith, l, e))) (λ e. absurd (omega (arith, l, e))))
+
+-- ---- the lanes
+
+-- those before n stay when voice n is put
+lanes-stay : (n envx : ℕ) (out : ℤ) (endx : Bool) (bytes : List ℕ) (vs : List Voice) (y : Voice) → n < 8 → length bytes ≡ 128 → (k : ℕ) → k ≤ n
+    → lanesOf (set vs n y) (putBytes n envx out endx bytes) k ≡ lanesOf vs bytes k
+unfolding lanesOf
+lanes-stay n envx out endx bytes vs y l z zero m = refl
+lanes-stay n envx out endx bytes vs y l z (suc k) m =
+    let v = getD-set-other vs n k y noVoice (λ e. absurd (omega (arith, m, e))) in
+    let b = put-there n envx out endx bytes l z (k * 16 + 8) (λ e. absurd (omega (arith, m, e))) (λ e. absurd (omega (arith, m, e))) (λ e. absurd (omega (arith, l, m, e))) in
+    let x = ap (λ (w : ℕ). bit w k) (put-endx n envx out endx bytes l z) ∙ bit-there (getD bytes 0x7C 0) n k endx l (omega (arith, l, m)) (λ e. absurd (omega (arith, m, e))) in
+    λ i. lanes-stay n envx out endx bytes vs y l z k (omega (arith, m)) i ++ laneBytes (outputOf (v i)) (b i) (x i)
+
+record Lanes (n : ℕ) (r : Round) : Type 0 where
+  registers : length (r .bytes) ≡ 128
+  voices : length (r .voices) ≡ 8
+  row : r .row ≡ lanesOf (r .voices) (r .bytes) n
+
+lanes-turn : (old : List ℕ) (c : Shared) (ram : List ℕ) (n : ℕ) (r : Round) → n < 8 → Lanes n r → Lanes (suc n) (turn 0xFF old c ram n r)
+unfolding turn turned ownCell cellOf cellAfter lanesOf
+lanes-turn old c ram n r l h =
+    let x = ownCell c ram n (r .acc .prev) (getD (r .voices) n noVoice) (getD (r .delays) n 0) (r .bytes) in
+    let b = r .bytes in
+    let v = getD-set-same (r .voices) n (x .voice) noVoice (omega (arith, l, h .voices)) in
+    let e = put-envx n (x .envx) (x .out) (x .endx) b l (h .registers) in
+    let d = ap (λ (w : ℕ). bit w n) (put-endx n (x .envx) (x .out) (x .endx) b l (h .registers)) ∙ bit-here (getD b 0x7C 0) n (x .endx) l in
+    let s = lanes-stay n (x .envx) (x .out) (x .endx) b (r .voices) (x .voice) l (h .registers) n (omega arith) in
+    rw (full n l)
+    (record {
+      registers = put-sized n (x .envx) (x .out) (x .endx) b l (h .registers);
+      voices = length-set (r .voices) n (x .voice) ∙ h .voices;
+      row = λ i. (h .row ∙ sym s) i ++ laneBytes (outputOf (sym v i)) (sym e i) (sym d i);
+    })
+
+lanes-after : (old : List ℕ) (c : Shared) (ram : List ℕ) (n : ℕ) (r : Round) → n ≤ 8 → Lanes 0 r → Lanes n (turns (turn 0xFF old c ram) n r)
+unfolding turns
+lanes-after old c ram zero r l h = h
+lanes-after old c ram (suc n) r l h = lanes-turn old c ram n (turns (turn 0xFF old c ram) n r) l (lanes-after old c ram n r (omega arith) h)
+
+pub row-shows : RowShows
+unfolding tickOf voicesTick lanesOf echoLane echoTick echoMoved
+row-shows d ram old v =
+    let p = apart d in
+    let c = sharedOf (p .glob) (p .registers) in
+    let h = lanes-after old c ram 8 (startOf p) (omega arith) (record { registers = v .registers; voices = v .voices; row = refl }) in
+    let g = tickOf everything old p ram .parts .glob in
+    ap (λ (xs : List ℕ). xs ++ pairBytes (g .«echo_out_l») (g .«echo_out_r»)) (h .row)
