@@ -19,17 +19,17 @@ use Rattle.report.specs.Runs.{roomFor, roomWithin, roomIn, runCut, registersIn}
 use Rattle.report.specs.declared.runs.Room.{Room}
 use Rattle.report.proofs.Cuts.{room-is}
 use Rattle.remark.specs.Marking.{same, changed, verdictOf}
-use Rattle.remark.specs.Answer.{withRest, reworkIn, reworkCut, Both, unplayed, reworked, afterFirst, bothOf, Judged, judgeFirst, judgeOf, Answer, judging, answerOf}
+use Rattle.remark.specs.Answer.{withTheRest, reworkIn, reworkCut, Both, unplayed, bothWorked, bothFrom, bothOf, Judged, judgeFirst, judgeOf, Answer, judging, answerOf}
 use Rattle.remark.specs.declared.marking.Verdict.{Verdict}
 
 -- a rework that is lent the first bytes of each slice
 pub cut-rework : (s : ℕ) (end : Dsp) (ram log₁ log₂ pcm sheet readings : List ℕ) {m : Measured} {e n : Room} {d : Dsp} {x : Left}
     → m ≡ measureOf log₂ → e ≡ roomFor (m .ticks) (m .readings) → n ≡ roomWithin e (length pcm) (length sheet) (length readings)
     → d ≡ newDsp → x ≡ reworkOf s d end ram log₁ log₂ (take (n .pcm) pcm) (take (n .sheet) sheet) (take (n .readings) readings)
-    → withRest n pcm sheet readings x ≡ reworkCut s end ram log₁ log₂ pcm sheet readings
+    → withTheRest n pcm sheet readings x ≡ reworkCut s end ram log₁ log₂ pcm sheet readings
 unfolding reworkCut
 cut-rework s end ram log₁ log₂ pcm sheet readings {n = n} em ee en ed ex =
-    ap (withRest n pcm sheet readings) (ex ∙ ap (λ (k : Dsp). reworkOf s k end ram log₁ log₂ (take (n .pcm) pcm) (take (n .sheet) sheet) (take (n .readings) readings)) ed)
+    ap (withTheRest n pcm sheet readings) (ex ∙ ap (λ (k : Dsp). reworkOf s k end ram log₁ log₂ (take (n .pcm) pcm) (take (n .sheet) sheet) (take (n .readings) readings)) ed)
     ∙ ap (λ (k : Room). reworkIn k s end ram log₁ log₂ pcm sheet readings)
     (room-is _ _ (length pcm) (length sheet) (length readings) ee en ∙ ap (λ (k : Measured). roomIn (k .ticks) (k .readings) pcm sheet readings) em)
 
@@ -37,12 +37,12 @@ cut-rework s end ram log₁ log₂ pcm sheet readings {n = n} em ee en ed ex =
 module _ (s : ℕ) (ram own log₁ log₂ pcm sheet readings after : List ℕ) {o : Outcome} (is : o ≡ runCut newDsp own log₁ pcm sheet readings) where
   pub first-refused : (o .refusal ≡ 0 → ⊥) → unplayed o after ≡ bothOf s ram own log₁ log₂ pcm sheet readings after
   unfolding bothOf
-  first-refused h = let p : unplayed o after ≡ afterFirst s ram log₁ log₂ after o = rw (ne-eqb _ _ h) in p ∙ ap (afterFirst s ram log₁ log₂ after) is
+  first-refused h = let p : unplayed o after ≡ bothFrom s ram log₁ log₂ after o = rw (ne-eqb _ _ h) in p ∙ ap (bothFrom s ram log₁ log₂ after) is
 
   pub first-reworked : {x : Left} → o .refusal ≡ 0 → x ≡ reworkCut s (o .dsp) ram log₁ log₂ (o .pcm) (o .sheet) after
-      → reworked o x ≡ bothOf s ram own log₁ log₂ pcm sheet readings after
+      → bothWorked o x ≡ bothOf s ram own log₁ log₂ pcm sheet readings after
   unfolding bothOf
-  first-reworked {x} e ex = let p : reworked o x ≡ afterFirst s ram log₁ log₂ after o = rw (eq-eqb _ _ e) (ap (reworked o) ex) in p ∙ ap (afterFirst s ram log₁ log₂ after) is
+  first-reworked {x} e ex = let p : bothWorked o x ≡ bothFrom s ram log₁ log₂ after o = rw (eq-eqb _ _ e) (ap (bothWorked o) ex) in p ∙ ap (bothFrom s ram log₁ log₂ after) is
 
 -- the first of a list, no more than there are
 take-least : (n : ℕ) (l : List ℕ) → take (least n (length l)) l ≡ take n l

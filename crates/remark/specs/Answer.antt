@@ -18,8 +18,8 @@ use Rattle.remark.specs.declared.marking.Verdict.{Verdict}
 
 -- ---- a rework that is lent the first bytes of each slice, as many as the new log needs; what stands behind them stays
 
-abbrev pub withRest : Room → List ℕ → List ℕ → List ℕ → Left → Left
-withRest n pcm sheet readings x =
+abbrev pub withTheRest : Room → List ℕ → List ℕ → List ℕ → Left → Left
+withTheRest n pcm sheet readings x =
     record {
       refusal = x .refusal;
       dsp = x .dsp;
@@ -32,7 +32,7 @@ withRest n pcm sheet readings x =
 
 abbrev pub reworkIn : Room → ℕ → Dsp → List ℕ → List ℕ → List ℕ → List ℕ → List ℕ → List ℕ → Left
 reworkIn n s end ram log₁ log₂ pcm sheet readings =
-    withRest n pcm sheet readings (reworkOf s newDsp end ram log₁ log₂ (take (n .pcm) pcm) (take (n .sheet) sheet) (take (n .readings) readings))
+    withTheRest n pcm sheet readings (reworkOf s newDsp end ram log₁ log₂ (take (n .pcm) pcm) (take (n .sheet) sheet) (take (n .readings) readings))
 
 -- s: the named voices; end: the record at the old log's end
 unfoldable pub reworkCut : ℕ → Dsp → List ℕ → List ℕ → List ℕ → List ℕ → List ℕ → List ℕ → Left
@@ -67,8 +67,8 @@ unplayed o after =
       after = after;
     }
 
-abbrev pub reworked : Outcome → Left → Both
-reworked o x =
+abbrev pub bothWorked : Outcome → Left → Both
+bothWorked o x =
     record {
       refusal = x .refusal;
       ofOld = false;
@@ -81,14 +81,14 @@ reworked o x =
       after = x .readings;
     }
 
-abbrev pub afterFirst : ℕ → List ℕ → List ℕ → List ℕ → List ℕ → Outcome → Both
-afterFirst s ram log₁ log₂ after o =
-    if o .refusal =? 0 then reworked o (reworkCut s (o .dsp) ram log₁ log₂ (o .pcm) (o .sheet) after) else
+abbrev pub bothFrom : ℕ → List ℕ → List ℕ → List ℕ → List ℕ → Outcome → Both
+bothFrom s ram log₁ log₂ after o =
+    if o .refusal =? 0 then bothWorked o (reworkCut s (o .dsp) ram log₁ log₂ (o .pcm) (o .sheet) after) else
     unplayed o after
 
 -- the first run has a RAM of its own
 unfoldable pub bothOf : ℕ → List ℕ → List ℕ → List ℕ → List ℕ → List ℕ → List ℕ → List ℕ → List ℕ → Both
-bothOf s ram own log₁ log₂ pcm sheet before after = afterFirst s ram log₁ log₂ after (runCut newDsp own log₁ pcm sheet before)
+bothOf s ram own log₁ log₂ pcm sheet before after = bothFrom s ram log₁ log₂ after (runCut newDsp own log₁ pcm sheet before)
 
 -- ---- their readings, as many as the new log has
 

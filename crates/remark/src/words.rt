@@ -1,15 +1,9 @@
 // The answer in words. Each answers whether it went out.
-ghost use Prim.Native.Nat.{_<_};
 use crate::marking::Verdict;
+use numbers::bit;
 use report::lines;
 use report::lines::number;
 use report::lines::say;
-
-fn is_in(set: u8, voice: usize) -> bool
-    requires { ⌜ voice < 8 ⌝ }
-{
-    (set >> voice) % 2 == 1
-}
 
 // As `voices 3, 4`.
 fn voices(set: u8) -> bool {
@@ -25,7 +19,7 @@ fn voices(set: u8) -> bool {
     let mut some = false;
     let mut voice: usize = 0;
     while voice < 8 {
-        if is_in(set, voice) {
+        if bit(set, voice) {
             out = one_more(some, voice as u64) & out;
             some = true;
         }

@@ -11,7 +11,7 @@ use Rattle.dsp.proofs.Fits.{new-fit}
 use Rattle.sitting.specs.Run.{runOf}
 use Rattle.rework.specs.Refusals.{_when_, firstOf, ramIsNotWhole}
 use Rattle.rework.specs.Rework.{Left, unreworked, refusalOf, reworkNewOf}
-use Rattle.rework.specs.Demands.{Bytes, Exactly, roomFor, ofRoom, ofLogs, Demand1}
+use Rattle.rework.specs.Demands.{Bytes, Exactly, otherLengths, ofRoom, ofLogs, Demand1}
 use Rattle.rework.proofs.Taken.{unrefused}
 use Rattle.rework.proofs.Passed.{passed}
 use Rattle.rework.proofs.Refused.{refusing, taking, write-exactly, render-exactly, step-exactly, ticks-exactly, measure-exactly, run-exactly, part-exactly, rework-said, room-left, rework-exactly}
@@ -42,7 +42,7 @@ module _ (s : ℕ) (ram log₁ log₂ pcm sheet readings : List ℕ) where
       let t = same-totals s ram log₁ log₂ pcm sheet readings b₁ b₂ u in
       let c : firstOf conditions ≡ firstOf (ofRoom log₂ pcm sheet readings) = new-said ∙ rw z in
       let y : o .refusal ≡ firstOf conditions =
-      x .0 ∙ room-left s newDsp newDsp ram log₁ log₂ pcm sheet readings log₁ (u .whole) (u .fits) (u .first) ∙ (λ i. firstOf (roomFor (t .0 i) (t .1 i) pcm sheet readings)) ∙ sym c in
+      x .0 ∙ room-left s newDsp newDsp ram log₁ log₂ pcm sheet readings log₁ (u .whole) (u .fits) (u .first) ∙ (λ i. firstOf (otherLengths (t .0 i) (t .1 i) pcm sheet readings)) ∙ sym c in
       tested P (o .refusal =? 0)
       (λ e. taking refusal left conditions _ (reworks s ram log₁ log₂ pcm sheet readings b₁ b₂ u (unrefused everything newDsp ram log₁ pcm sheet readings (eqb-true _ _ e)) .refusal) (sym y ∙ eqb-true _ _ e))
       (λ e. (y, λ h. let g = x .1 h in λ i. unreworked (o .refusal) newDsp (g i .pcm) (g i .sheet) (g i .readings))))

@@ -46,12 +46,12 @@ abbrev pub Exactly : {A : Type 0} → (A → ℕ) → A → List ℕ → (ℕ �
 Exactly refusal answer conditions left = (refusal answer ≡ firstOf conditions) × (refusal answer ≢ 0 → answer ≡ left (refusal answer))
 
 -- "PCM 4, sheet 36 bytes a tick, one byte a reading"
-abbrev pub roomFor : ℕ → ℕ → List ℕ → List ℕ → List ℕ → List ℕ
-roomFor ticks readings pcm sheet told =
+abbrev pub otherLengths : ℕ → ℕ → List ℕ → List ℕ → List ℕ → List ℕ
+otherLengths ticks readings pcm sheet told =
     (10 when isNotAsLong pcm (ticks * 4)) ∷ (10 when isNotAsLong sheet (ticks * 36)) ∷ (10 when isNotAsLong told readings) ∷ []
 
 abbrev pub ofRoom : List ℕ → List ℕ → List ℕ → List ℕ → List ℕ
-ofRoom log pcm sheet readings = roomFor (measureOf log .ticks) (measureOf log .readings) pcm sheet readings
+ofRoom log pcm sheet readings = otherLengths (measureOf log .ticks) (measureOf log .readings) pcm sheet readings
 
 -- "Order: 1, 2, 3, then 4 to 9 at the first place in the log, then 12, 11, 10"
 abbrev pub ofRun : Dsp → List ℕ → List ℕ → List ℕ → List ℕ → List ℕ → List ℕ

@@ -89,8 +89,8 @@ clampedOnce d = masterOf (globOf d) (record { l = clamp16Z (unclamped (d .voices
 
 -- ---- a voice in phase Off whose key_on is set
 
-abbrev keyedOff : Voice
-keyedOff =
+abbrev offButKeyed : Voice
+offButKeyed =
     record {
       «left_vol» = pos 0;
       «right_vol» = pos 0;
@@ -119,8 +119,8 @@ withVoice v =
 
 -- ---- an idle voice after RESET
 
-abbrev silenced : Outcome
-silenced = runOf newDsp ram (put 0x6C 0x20 (put 0x07 0x7F (put 0x4C 0x01 (ticks 6 (put 0x6C 0xA0 (ticks 1 (ask 0x08 end))))))) pcm (replicate 252 0) (0 ∷ [])
+abbrev afterReset : Outcome
+afterReset = runOf newDsp ram (put 0x6C 0x20 (put 0x07 0x7F (put 0x4C 0x01 (ticks 6 (put 0x6C 0xA0 (ticks 1 (ask 0x08 end))))))) pcm (replicate 252 0) (0 ∷ [])
 
 -- ---- a chip that refuses all
 
@@ -160,6 +160,6 @@ pub record NotThrough : Type 0 where
   -- "Clamping the mix once at the end"
   pub clampsEach : renderOf loud .left ≢ clampedOnce loud
   -- "Stopping a voice whenever its phase is Off"
-  pub keepsOn : getD (stepOf (withVoice keyedOff) ram .dsp .voices) 0 noVoice ≢ keyedOff
+  pub keepsOn : getD (stepOf (withVoice offButKeyed) ram .dsp .voices) 0 noVoice ≢ offButKeyed
   -- "Refreshing ENVX of an idle voice after RESET": it would read 0
-  pub untouched : silenced .readings ≢ 0 ∷ []
+  pub untouched : afterReset .readings ≢ 0 ∷ []
