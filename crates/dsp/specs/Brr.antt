@@ -1,4 +1,4 @@
--- BRR: bytes of RAM at addresses that wrap, and the 16 samples of a block.
+-- BRR: bytes of RAM at addresses that wrap, the directory of samples, and the 16 samples of a block.
 use mathlib.Core.Bool.{Bool}
 use mathlib.Core.List.{List}
 use Prim.Native.Nat.{ℕ, zero, suc, _+_, _*_, _/_, _%_}
@@ -19,6 +19,10 @@ byteAt ram a = getD ram (wrapped a) 0
 -- 16 bits, low byte first
 unfoldable pub wordAt : List ℕ → ℕ → ℕ
 wordAt ram a = byteAt ram a + 0x100 * byteAt ram (a + 1)
+
+-- the directory entry of a source: DIR · 256 + SRCN · 4; start address, then loop address
+abbrev pub entryOf : ℕ → ℕ → ℕ
+entryOf dir srcn = dir * 0x100 + srcn * 4
 
 -- ---- a block: a header and eight bytes
 
