@@ -6,3 +6,4 @@ pub mod Choice
 pub mod Table
 pub mod Turns
 pub mod Lists
+pub mod Bits
