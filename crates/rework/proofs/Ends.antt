@@ -10,12 +10,13 @@ use lib.ListN.{getD, length}
 use Rattle.numbers.specs.Choice.{_=?_}
 use Rattle.numbers.proofs.Choice.{tested}
 use Rattle.numbers.specs.Bits.{bit}
+use Rattle.numbers.proofs.Bits.{byte-ext}
 use Rattle.dsp.specs.Machine.{noVoice, Parts}
 use Rattle.dsp.proofs.Tests.{lt, _and_}
 use Rattle.rework.specs.Differ.{Outside, SameBytes, SameBut}
 use Rattle.rework.specs.Rework.{picked, owns, endByte, pickedBytes, endOf}
 use Rattle.rework.proofs.Listed.{listed-is}
-use Rattle.rework.proofs.Bits.{itself, unless, byte-ext, bit-mixed, mixed-byte}
+use Rattle.rework.proofs.Bits.{itself, unless, bit-mixed, mixed-byte}
 use Rattle.rework.proofs.Tape.{Sim}
 use Rattle.rework.proofs.Kept.{Sized}
 

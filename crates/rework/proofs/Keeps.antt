@@ -11,6 +11,7 @@ use Rattle.numbers.specs.Choice.{if_then_else_, _=?_}
 use Rattle.numbers.specs.Signed.{highZ}
 use Rattle.numbers.proofs.Choice.{chosen}
 use Rattle.numbers.specs.Bits.{bit, withBit}
+use Rattle.numbers.proofs.Bits.{with-byte}
 use Rattle.sound.specs.Sound.{to16}
 use Rattle.dsp.specs.Machine.{noVoice, newVoice, newDsp, Parts, apart, together}
 use Rattle.dsp.specs.Fit.{fit}
@@ -26,7 +27,6 @@ use Rattle.dsp.proofs.Turns.{turns-keep, set-keeps}
 use Rattle.dsp.proofs.Fits.{fit-facts, facts-fit}
 use Rattle.dsp.proofs.Ticks.{fit-kept-bench}
 use Rattle.rework.specs.Differ.{Value}
-use Rattle.rework.proofs.Bits.{with-byte}
 use Rattle.rework.proofs.Tape.{Beat, put, tick, ask, Small, tape}
 use Rattle.rework.proofs.Right.{Good, good-start, good-tick, good-write}
 use Rattle.rework.proofs.Kept.{Sized}

@@ -15,6 +15,7 @@ use Rattle.numbers.specs.Choice.{if_then_else_, _<?_, _=?_}
 use Rattle.numbers.specs.Signed.{highZ}
 use Rattle.numbers.proofs.Choice.{tested, chosen}
 use Rattle.numbers.specs.Bits.{bit, withBit}
+use Rattle.numbers.proofs.Bits.{bit-here, bit-there}
 use Rattle.sound.specs.Sound.{even}
 use Rattle.dsp.specs.Machine.{noVoice, Parts}
 use Rattle.dsp.specs.Registers.{turns, resets, writeVoice, silenced, silenceVoice, silenceAll, globWrite, tapsAfter, writeParts}
@@ -37,7 +38,7 @@ use Rattle.rework.specs.declared.modes.Modes.{Modes}
 use Rattle.rework.specs.Alike.{named}
 use Rattle.rework.specs.Members.{modesAfter, joinedBy}
 use Rattle.rework.specs.Differ.{Outside, SameBytes, SameBut}
-use Rattle.rework.proofs.Bits.{itself, unless, bit-here, bit-there, joined-more, joined-closed}
+use Rattle.rework.proofs.Bits.{itself, unless, joined-more, joined-closed}
 use Rattle.rework.proofs.Lanes.{lane-last}
 use Rattle.rework.proofs.Tape.{Beat, put, tick, ask, Small, keep, modesIn, Quiet, joins, behindTick, tape, modes-tick, SameLanes, Rows, none, more, Kept}
 
@@ -290,8 +291,8 @@ put-same a j x y b k l lb lk e s =
     let at : (i : ℕ) → i < 8 → Outside a i → bit (withBit v j (x .endx)) i ≡ bit (withBit w j (y .endx)) i =
     (λ i m o.
     elim (ℕ-discrete i j) [
-      | yes p ↦ rw p (bit-here v j (x .endx) l ∙ ap (λ (z : Cell). z .endx) (e (rw p at o)) ∙ sym (bit-here w j (y .endx) l))
-      | no p ↦ bit-there v j i (x .endx) l m p ∙ s₂ .endx i m o ∙ sym (bit-there w j i (y .endx) l m p)
+      | yes p ↦ rw p (bit-here v j (x .endx) ∙ ap (λ (z : Cell). z .endx) (e (rw p at o)) ∙ sym (bit-here w j (y .endx)))
+      | no p ↦ bit-there v j i (x .endx) p ∙ s₂ .endx i m o ∙ sym (bit-there w j i (y .endx) p)
     ]) in
     bytes-set a b₂ k₂ 0x7C (withBit v j (x .endx)) (withBit w j (y .endx)) (simp length-set lb) (simp length-set lk) (omega arith)
     (record { own = λ m. absurd (omega arith); endx = λ f. at; others = λ m f. absurd (f refl) }) s₂

@@ -15,6 +15,7 @@ use Rattle.numbers.specs.Choice.{if_then_else_}
 use Rattle.numbers.specs.Signed.{highZ}
 use Rattle.numbers.proofs.Choice.{chosen}
 use Rattle.numbers.specs.Bits.{bit, withBit}
+use Rattle.numbers.proofs.Bits.{bit-here, bit-there, with-byte, byte-ext}
 use Rattle.dsp.specs.Machine.{noVoice, apart}
 use Rattle.dsp.specs.Envelope.{isOff}
 use Rattle.dsp.specs.Voice.{withKey}
@@ -30,7 +31,6 @@ use Rattle.dsp.proofs.Turns.{turns-keep, turns-same}
 use Rattle.dsp.proofs.Whole.{full, tick-whole}
 use Rattle.rework.specs.Order.{polledVoice, Polled, pollOne, polledParts, echoBehind, PollFirst}
 use Rattle.rework.proofs.Shows.{put-sized, put-endx}
-use Rattle.rework.proofs.Bits.{bit-here, bit-there, with-byte, byte-ext}
 
 -- ---- stores
 
@@ -52,8 +52,8 @@ with-over : (x n : ℕ) (a b : Bool) → x < 256 → n < 8 → withBit (withBit 
 with-over x n a b l m =
     byte-ext _ _ (with-byte (withBit x n a) n b (with-byte x n a l m) m) (with-byte x n b l m)
     (λ k h. elim (ℕ-discrete k n) [
-      | yes p ↦ rw p (bit-here (withBit x n a) n b m ∙ sym (bit-here x n b m))
-      | no p ↦ bit-there (withBit x n a) n k b m h p ∙ bit-there x n k a m h p ∙ sym (bit-there x n k b m h p)
+      | yes p ↦ rw p (bit-here (withBit x n a) n b ∙ sym (bit-here x n b))
+      | no p ↦ bit-there (withBit x n a) n k b p ∙ bit-there x n k a p ∙ sym (bit-there x n k b p)
     ])
 
 with-swap : (x n j : ℕ) (a b : Bool) → x < 256 → n < 8 → j < 8 → n ≢ j → withBit (withBit x j a) n b ≡ withBit (withBit x n b) j a
@@ -61,12 +61,12 @@ with-swap x n j a b l m q d =
     byte-ext _ _ (with-byte (withBit x j a) n b (with-byte x j a l q) m) (with-byte (withBit x n b) j a (with-byte x n b l m) q)
     (λ k h. elim (ℕ-discrete k n) [
       | yes p ↦
-          rw p (bit-here (withBit x j a) n b m ∙ sym (bit-there (withBit x n b) j n a q m d ∙ bit-here x n b m))
+          rw p (bit-here (withBit x j a) n b ∙ sym (bit-there (withBit x n b) j n a d ∙ bit-here x n b))
       | no p ↦
-          bit-there (withBit x j a) n k b m h p
+          bit-there (withBit x j a) n k b p
           ∙ elim (ℕ-discrete k j) [
-            | yes e ↦ rw e (bit-here x j a q ∙ sym (bit-here (withBit x n b) j a q))
-            | no e ↦ bit-there x j k a q h e ∙ sym (bit-there (withBit x n b) j k a q h e ∙ bit-there x n k b m h p)
+            | yes e ↦ rw e (bit-here x j a ∙ sym (bit-here (withBit x n b) j a))
+            | no e ↦ bit-there x j k a e ∙ sym (bit-there (withBit x n b) j k a e ∙ bit-there x n k b p)
           ]
     ])
 
@@ -214,13 +214,13 @@ module _ (c : Shared) (ram : List ℕ) where
   poll-own : (b : Bool) (n : ℕ) (bytes : List ℕ) → n < 8 → length bytes ≡ 128
       → bit (getD (if b then putEndx n false bytes else bytes) 0x7C 0) n ≡ (if b then false else bit (getD bytes 0x7C 0) n)
   poll-own true n bytes l z =
-      ap (λ (x : ℕ). bit x n) (getD-set-same bytes 0x7C (withBit (getD bytes 0x7C 0) n false) 0 (omega (arith, z))) ∙ bit-here (getD bytes 0x7C 0) n false l
+      ap (λ (x : ℕ). bit x n) (getD-set-same bytes 0x7C (withBit (getD bytes 0x7C 0) n false) 0 (omega (arith, z))) ∙ bit-here (getD bytes 0x7C 0) n false
   poll-own false n bytes l z = refl
 
   poll-past : (b : Bool) (n j : ℕ) (bytes : List ℕ) → n < 8 → j < 8 → n ≢ j → length bytes ≡ 128
       → bit (getD (if b then putEndx j false bytes else bytes) 0x7C 0) n ≡ bit (getD bytes 0x7C 0) n
   poll-past true n j bytes l m d z =
-      ap (λ (x : ℕ). bit x n) (getD-set-same bytes 0x7C (withBit (getD bytes 0x7C 0) j false) 0 (omega (arith, z))) ∙ bit-there (getD bytes 0x7C 0) j n false m l d
+      ap (λ (x : ℕ). bit x n) (getD-set-same bytes 0x7C (withBit (getD bytes 0x7C 0) j false) 0 (omega (arith, z))) ∙ bit-there (getD bytes 0x7C 0) j n false d
   poll-past false n j bytes l m d z = refl
 
   -- ---- lengths

@@ -10,6 +10,7 @@ use lib.ListN.{getD, set, length, length-set}
 use lib.Seq.{getD-set-same, getD-set-other}
 use Rattle.numbers.specs.Signed.{highZ}
 use Rattle.numbers.specs.Bits.{bit, withBit}
+use Rattle.numbers.proofs.Bits.{bit-here, bit-there}
 use Rattle.dsp.specs.Machine.{noVoice, apart}
 use Rattle.dsp.specs.Mix.{outputOf}
 use Rattle.dsp.specs.Registers.{turns}
@@ -21,7 +22,6 @@ use Rattle.dsp.specs.declared.lane.Shared.{Shared}
 use Rattle.dsp.specs.declared.voice.Voice.{Voice}
 use Rattle.dsp.proofs.Whole.{full}
 use Rattle.rework.specs.Shown.{lanesOf, RowShows}
-use Rattle.rework.proofs.Bits.{bit-here, bit-there}
 
 -- ---- a voice's registers, after ENVX, OUTX and the ENDX bit of voice n were put
 
@@ -67,7 +67,7 @@ lanes-stay n envx out endx bytes vs y l z zero m = refl
 lanes-stay n envx out endx bytes vs y l z (suc k) m =
     let v = getD-set-other vs n k y noVoice (λ e. absurd (omega (arith, m, e))) in
     let b = put-there n envx out endx bytes l z (k * 16 + 8) (λ e. absurd (omega (arith, m, e))) (λ e. absurd (omega (arith, m, e))) (λ e. absurd (omega (arith, l, m, e))) in
-    let x = ap (λ (w : ℕ). bit w k) (put-endx n envx out endx bytes l z) ∙ bit-there (getD bytes 0x7C 0) n k endx l (omega (arith, l, m)) (λ e. absurd (omega (arith, m, e))) in
+    let x = ap (λ (w : ℕ). bit w k) (put-endx n envx out endx bytes l z) ∙ bit-there (getD bytes 0x7C 0) n k endx (λ e. absurd (omega (arith, m, e))) in
     λ i. lanes-stay n envx out endx bytes vs y l z k (omega (arith, m)) i ++ laneBytes (outputOf (v i)) (b i) (x i)
 
 record Lanes (n : ℕ) (r : Round) : Type 0 where
@@ -82,7 +82,7 @@ lanes-turn old c ram n r l h =
     let b = r .bytes in
     let v = getD-set-same (r .voices) n (x .voice) noVoice (omega (arith, l, h .voices)) in
     let e = put-envx n (x .envx) (x .out) (x .endx) b l (h .registers) in
-    let d = ap (λ (w : ℕ). bit w n) (put-endx n (x .envx) (x .out) (x .endx) b l (h .registers)) ∙ bit-here (getD b 0x7C 0) n (x .endx) l in
+    let d = ap (λ (w : ℕ). bit w n) (put-endx n (x .envx) (x .out) (x .endx) b l (h .registers)) ∙ bit-here (getD b 0x7C 0) n (x .endx) in
     let s = lanes-stay n (x .envx) (x .out) (x .endx) b (r .voices) (x .voice) l (h .registers) n (omega arith) in
     rw (full n l)
     (record {
