@@ -7,8 +7,8 @@ use native.Mathlib.Omega.{arith}
 use Rattle.numbers.specs.Choice.{_=?_}
 use Rattle.numbers.proofs.Choice.{chosen}
 use Rattle.numbers.specs.Bits.{bit}
-use Rattle.dsp.specs.Machine.{newDsp}
-use Rattle.dsp.specs.Registers.{turns}
+use Rattle.numbers.specs.Listed.{turns}
+use Rattle.dsp.specs.PowerOn.{newDsp}
 use Rattle.dsp.specs.declared.registers.Dsp.{Dsp}
 use Rattle.sitting.specs.Run.{runWith, runOf}
 use Rattle.rework.specs.Members.{counted, voicesIn}

@@ -1,7 +1,7 @@
 // The sound chip for C: entries over numbers and byte slices. tools/c/boltwillow.h says how C calls them.
 ghost use mathlib.Core.Path.{_≡_};
 ghost use Prim.Native.Nat.{_≤_};
-ghost use Rattle.dsp.specs.Machine.{newDsp};
+ghost use Rattle.dsp.specs.PowerOn.{newDsp};
 ghost use Rattle.log.specs.Measure.{measureOf};
 ghost use Rattle.sitting.specs.Run.{runOf};
 ghost use Rattle.rework.specs.Rework.{reworkNewOf};

@@ -14,15 +14,15 @@ use Rattle.numbers.specs.Choice.{_≤?_, _=?_}
 use Rattle.numbers.proofs.Range.{landed}
 use Rattle.numbers.proofs.Choice.{chosen}
 use Rattle.sound.specs.Sound.{fedBack, firOf, movedOn}
+use Rattle.dsp.specs.Machine.{Globals}
+use Rattle.dsp.specs.Fit.{FitGlobals}
 use Rattle.dsp.specs.Echo.{echoRead, lengthNow, pointerNext, echoMoved, historyNow, echoNow}
-use Rattle.dsp.specs.Fit.{FitGlob}
-use Rattle.dsp.specs.declared.registers.Glob.{Glob}
 
-pub pointer-low : (g : Glob) → FitGlob g → g .«echo_ptr» ≤ 30720
+pub pointer-low : (g : Globals) → FitGlobals g → g .«echo_ptr» ≤ 30720
 pointer-low g f = ⊎-elim (λ e. omega arith) (λ l. omega (arith, f .most)) (f .within)
 
 -- ---- one side: its history h, its output y and what it feeds back, z, which the machine reads from their bits
-module _ (g : Glob) (ram : List ℕ) (taps : List ℤ) (k : ℕ) (history : List ℤ) (input : ℤ) where
+module _ (g : Globals) (ram : List ℕ) (taps : List ℤ) (k : ℕ) (history : List ℤ) (input : ℤ) where
   pub record Side (h : List ℤ) (y z : ℤ) : Type 0 where
     pub moved : h ≡ historyNow g ram k history
     pub echo : toZ w16 (ofZ w16 y) ≡ echoNow g ram k taps history
@@ -43,19 +43,19 @@ module _ (g : Glob) (ram : List ℕ) (taps : List ℤ) (k : ℕ) (history : List
 
 -- ---- kept fit
 
-length-pages : (g : Glob) → FitGlob g → lengthNow g % 2048 ≡ 0
+length-pages : (g : Globals) → FitGlobals g → lengthNow g % 2048 ≡ 0
 unfolding lengthNow
 length-pages g f = chosen (λ (n : ℕ). n % 2048 ≡ 0) (g .«echo_ptr» =? 0) (omega arith) (f .pages)
 
-length-most : (g : Glob) → FitGlob g → lengthNow g ≤ 30720
+length-most : (g : Globals) → FitGlobals g → lengthNow g ≤ 30720
 unfolding lengthNow
 length-most g f = chosen (λ (n : ℕ). n ≤ 30720) (g .«echo_ptr» =? 0) (omega (arith, f .delay)) (f .most)
 
-next-pairs : (g : Glob) → FitGlob g → pointerNext g % 4 ≡ 0
+next-pairs : (g : Globals) → FitGlobals g → pointerNext g % 4 ≡ 0
 unfolding pointerNext
 next-pairs g f = chosen (λ (n : ℕ). n % 4 ≡ 0) (lengthNow g ≤? g .«echo_ptr» + 4) (omega arith) (omega (arith, f .pairs))
 
-next-within : (g : Glob) → (pointerNext g ≡ 0) ⊎ (pointerNext g < lengthNow g)
+next-within : (g : Globals) → (pointerNext g ≡ 0) ⊎ (pointerNext g < lengthNow g)
 unfolding pointerNext
 next-within g =
     elim (decLe (lengthNow g) (g .«echo_ptr» + 4)) [
@@ -63,7 +63,7 @@ next-within g =
       | no e ↦ let l : g .«echo_ptr» + 4 < lengthNow g = omega arith in rw (lt-leb _ _ l) (inr l)
     ]
 
-pub fit-kept-echo : (g : Glob) (l r : ℤ) → FitGlob g → FitGlob (echoMoved g l r)
+pub fit-kept-echo : (g : Globals) (l r : ℤ) → FitGlobals g → FitGlobals (echoMoved g l r)
 unfolding echoMoved
 fit-kept-echo g l r f =
     record {

@@ -8,15 +8,10 @@ use Rattle.numbers.proofs.Choice.{chosen}
 use Rattle.sound.specs.Clock.{periodOf}
 use Rattle.sound.specs.Envelope.{lowered, gained}
 use Rattle.sound.proofs.Bounds.{period-le, lowered-le, gained-le, shifted-le}
-use Rattle.dsp.specs.Clock.{tickDue}
-use Rattle.dsp.specs.Envelope.{FitEnvelope, FitSettings, counted, levelled, timed, risen, settled, fallenTo, faded, ramped, gains, attackTick, decayTick, sustainTick, releaseTick, gainTick, phaseTick, envelopeTick}
-use Rattle.dsp.specs.Noise.{FitNoise, noiseTick}
+use Rattle.dsp.specs.Noise.{noiseTick, Noise}
+use Rattle.dsp.specs.Envelope.{counted, levelled, timed, risen, settled, fallenTo, faded, ramped, gains, attackTick, decayTick, sustainTick, releaseTick, gainTick, phaseTick, envelopeTick}
 use Rattle.dsp.specs.declared.adsr.EnvelopePhase.{EnvelopePhase}
 use Rattle.dsp.specs.declared.adsr.EnvelopePhase.the-variants.{Attack, Decay, Sustain, Release, Off}
-use Rattle.dsp.specs.declared.adsr.Envelope.{Envelope}
-use Rattle.dsp.specs.declared.adsr.Settings.{Settings}
-use Rattle.dsp.specs.declared.adsr.Tick.{Tick}
-use Rattle.dsp.specs.declared.noise.Noise.{Noise}
 
 -- ---- the clock
 

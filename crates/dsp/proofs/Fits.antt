@@ -9,16 +9,17 @@ use borrow.Author.Needs.{needs}
 use borrow.Author.Count.{below-none, below-more}
 use Rattle.numbers.specs.Choice.{_<?_, _=?_}
 use Rattle.numbers.proofs.Choice.{chosen}
-use Rattle.dsp.specs.Machine.{newDsp, noVoice, globOf}
-use Rattle.dsp.specs.Fit.{fitAdsr, fitBrr, fitVoice, fitGlob, fitVoices, fit, FitAdsr, FitBrr, FitVoice, FitGlob, Fit}
-use Rattle.dsp.specs.Registers.{writeVoice, resets, silenced, silenceVoice, silenceAll, globWrite, writeParts, writeAt}
+use Rattle.dsp.specs.Machine.{noVoice, globalsOf, Globals}
+use Rattle.dsp.specs.PowerOn.{newDsp}
+use Rattle.dsp.specs.Fit.{fit, FitAdsr, FitBrr, FitVoice, FitGlobals, Fit}
+use Rattle.dsp.specs.Keys.{silenced}
+use Rattle.dsp.specs.Registers.{writeVoice, resets, globalsAfter, writeParts, writeAt}
 use Rattle.dsp.specs.declared.adsr.Adsr.{Adsr}
 use Rattle.dsp.specs.declared.brr.Brr.{Brr}
 use Rattle.dsp.specs.declared.voice.Voice.{Voice}
 use Rattle.dsp.specs.declared.registers.Dsp.{Dsp}
-use Rattle.dsp.specs.declared.registers.Glob.{Glob}
 use Rattle.dsp.proofs.Tests.{Decides, le, lt, eq, restated, _and_, _or_}
-use Rattle.dsp.proofs.Turns.{turns-keep, set-keeps}
+use Rattle.numbers.proofs.Turns.{turns-keep, set-keeps}
 
 -- ---- the test and the facts
 
@@ -44,7 +45,7 @@ voice-fit v =
     (λ h. search needs)
     (λ h. search needs)
 
-glob-fit : (g : Glob) → Decides (fitGlob g) (FitGlob g)
+glob-fit : (g : Globals) → Decides (fitGlob g) (FitGlobals g)
 glob-fit g =
     restated
     (le (g .noise .counter) 2047 and le (g .noise .lfsr) 0x7FFF and le (g .edl) 15 and eq (g .pmon % 2) 0 and eq (g .«echo_len» % 2048) 0
@@ -56,9 +57,9 @@ glob-fit g =
 abbrev FitAt : Dsp → ℕ → Type 0
 FitAt d n = FitVoice (getD (d .voices) n noVoice) × (getD (d .«kon_delay») n 0 ≤ 5)
 
-voices-fit : (d : Dsp) (k : ℕ) → Decides (fitVoices d k) (FitGlob (globOf d) × ((n : ℕ) → n < k → FitAt d n))
+voices-fit : (d : Dsp) (k : ℕ) → Decides (fitVoices d k) (FitGlobals (globalsOf d) × ((n : ℕ) → n < k → FitAt d n))
 unfolding fitVoices
-voices-fit d zero = restated (glob-fit (globOf d)) (λ h. (h, below-none (FitAt d))) (λ h. h .0)
+voices-fit d zero = restated (glob-fit (globalsOf d)) (λ h. (h, below-none (FitAt d))) (λ h. h .0)
 voices-fit d (suc k) =
     restated
     (voices-fit d k and voice-fit (getD (d .voices) k noVoice) and le (getD (d .«kon_delay») k 0) 5)
@@ -67,11 +68,11 @@ voices-fit d (suc k) =
 
 pub fit-facts : (d : Dsp) → fit d ≡ true → Fit d
 unfolding fit
-fit-facts d e = let h = voices-fit d 8 .sound e in record { glob = h .0; voices = λ n l. h .1 n l .0; delays = λ n l. h .1 n l .1 }
+fit-facts d e = let h = voices-fit d 8 .sound e in record { globals = h .0; voices = λ n l. h .1 n l .0; delays = λ n l. h .1 n l .1 }
 
 pub facts-fit : (d : Dsp) → Fit d → fit d ≡ true
 unfolding fit
-facts-fit d h = voices-fit d 8 .holds (h .glob, λ n l. (h .voices n l, h .delays n l))
+facts-fit d h = voices-fit d 8 .holds (h .globals, λ n l. (h .voices n l, h .delays n l))
 
 pub new-fit : fit newDsp ≡ true
 unfolding fit fitVoices
@@ -97,7 +98,7 @@ write-fit i x v l h =
       brr = h .brr;
     }
 
-glob-write-fit : (i x : ℕ) (g : Glob) → FitGlob g → FitGlob (globWrite i x g)
+glob-write-fit : (i x : ℕ) (g : Globals) → FitGlobals g → FitGlobals (globalsAfter i x g)
 glob-write-fit i x g h =
     record {
       counter = h .counter;
@@ -129,7 +130,7 @@ unfolding writeAt writeParts
 fit-kept-write i x d li lx h =
     let v = getD (d .voices) (i / 16) noVoice in
     record {
-      glob = glob-write-fit i x (globOf d) (h .glob);
+      globals = glob-write-fit i x (globalsOf d) (h .globals);
       voices =
           chosen AllFit (i % 16 <? 8)
           (set-fit (d .voices) (i / 16) _ (write-fit (i % 16) x v lx (h .voices (i / 16) (omega arith))) (h .voices))

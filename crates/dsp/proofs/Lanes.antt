@@ -9,15 +9,13 @@ use lib.IntN.{ℤ}
 use Rattle.numbers.specs.Choice.{if_then_else_, _=?_}
 use Rattle.numbers.proofs.Choice.{chosen}
 use Rattle.numbers.specs.Bits.{bit}
-use Rattle.dsp.specs.Envelope.{FitSettings, isOff}
 use Rattle.dsp.specs.Fit.{FitVoice}
-use Rattle.dsp.specs.Voice.{FitPlay, Sounding}
-use Rattle.dsp.specs.Lane.{ownCell, shownCell, playOf, settingsOf, keyedOff, keyedOn, delayOf, Waiting, waited, noised, sourceOf, polledOf, waitedOf, Cell, cellAfter, cellOf}
-use Rattle.dsp.specs.declared.adsr.Settings.{Settings}
+use Rattle.dsp.specs.Envelope.{isOff}
+use Rattle.dsp.specs.Keys.{keyedOff, keyedOn, polledDelay}
+use Rattle.dsp.specs.Voice.{Sounding, PitchSource}
+use Rattle.dsp.specs.Lane.{ownCell, shownCell, Waiting, waited, noised, sourceOf, polledOf, waitedOf, Cell, cellAfter, cellOf, Shared}
+use Rattle.dsp.specs.Inside.{settingsOf}
 use Rattle.dsp.specs.declared.voice.Voice.{Voice}
-use Rattle.dsp.specs.declared.play.Source.{Source}
-use Rattle.dsp.specs.declared.play.Play.{Play}
-use Rattle.dsp.specs.declared.lane.Shared.{Shared}
 use Rattle.dsp.proofs.Plays.{fit-kept-step}
 
 pub settings-fit : (v : Voice) → FitVoice v → FitSettings (settingsOf v)
@@ -55,7 +53,7 @@ pub record FitWaiting (w : Waiting) : Type 0 where
   pub play : FitPlay (w .play)
   pub delay : w .delay ≤ 5
 
-waited-fit : (ram : List ℕ) (dir srcn : ℕ) (f : Settings) (pitch : ℕ) (x : Source) (envx delay : ℕ) (s : Sounding) → FitSettings f
+waited-fit : (ram : List ℕ) (dir srcn : ℕ) (f : Settings) (pitch : ℕ) (x : PitchSource) (envx delay : ℕ) (s : Sounding) → FitSettings f
     → FitPlay (s .play) → delay ≤ 5 → FitWaiting (waited ram dir srcn f pitch x envx delay s)
 unfolding waited
 waited-fit ram dir srcn f pitch x envx delay s g h d =
@@ -65,7 +63,7 @@ pub fit-kept-waited : (c : Shared) (ram : List ℕ) (j : ℕ) (prev : ℤ) (v : 
     → FitVoice v → delay ≤ 5 → FitWaiting (waitedOf c ram j prev v delay srcn envx endx samples)
 unfolding waitedOf
 fit-kept-waited c ram j prev v delay srcn envx endx samples h d =
-    waited-fit ram (c .dir) srcn (settingsOf v) (v .pitch) (sourceOf (c .pmon) j prev) envx (delayOf (bit (c .kon) j) delay)
+    waited-fit ram (c .dir) srcn (settingsOf v) (v .pitch) (sourceOf (c .pmon) j prev) envx (polledDelay (bit (c .kon) j) delay)
     (record { play = polledOf c j v endx; samples = samples }) (settings-fit v h) (polled-fit c j v endx h)
     (chosen (λ (n : ℕ). n ≤ 5) (bit (c .kon) j) (omega arith) d)
 

@@ -7,7 +7,6 @@ pub mod Echoes
 pub mod Readings
 pub mod Writes
 pub mod Tests
-pub mod Turns
 pub mod Fits
 pub mod Lanes
 pub mod Ticks

@@ -9,8 +9,7 @@ use lib.IntN.{ℤ, pos, negsuc, negℤ, natAbs, _+ℤ_, _*ℤ_}
 use lib.Signed.{shrZ, nonNeg, mag}
 use mir.Syntax.{w16, w32}
 use mir.Val.{Fits, toZ, ofZ}
-use Rattle.dsp.specs.Voice.{pitchOf}
-use Rattle.dsp.specs.declared.play.Source.the-variants.{From}
+use Rattle.dsp.specs.Voice.{pitchOf, plain, modulatedBy}
 use Rattle.numbers.specs.Signed.{_>>_}
 use Rattle.numbers.proofs.Range.{reads, quotes, q-unsigned, q-elem16}
 

@@ -12,12 +12,10 @@ use lib.ListN.{length}
 use Rattle.numbers.specs.Listed.{listed}
 use Rattle.numbers.specs.Choice.{_≤?_, _=?_}
 use Rattle.numbers.proofs.Choice.{chosen, least-le}
+use Rattle.dsp.specs.With.{withEnvelope, withPosition}
+use Rattle.dsp.specs.Envelope.{envelopeTick}
 use Rattle.dsp.specs.Brr.{wordAt, decodeBlock}
-use Rattle.dsp.specs.Envelope.{FitEnvelope, FitSettings, envelopeTick}
-use Rattle.dsp.specs.Voice.{Sounding, Stepped, FitBlock, FitPlay, pitchOf, positionOf, samplesTaken, muted, filled, placed, decodedAt, nextAddress, nextBlock, resolved, pushed, pushedNext, lastOf, takeOne, consume, withEnvelope, withPosition, idle, advanced, interpolated, shown, sounded, voiceStep}
-use Rattle.dsp.specs.declared.adsr.Settings.{Settings}
-use Rattle.dsp.specs.declared.play.Source.{Source}
-use Rattle.dsp.specs.declared.play.Play.{Play}
+use Rattle.dsp.specs.Voice.{Sounding, Stepped, pitchOf, positionOf, samplesTaken, filled, placed, decodedAt, nextAddress, nextBlock, resolved, pushed, pushedNext, lastOf, takeOne, consume, idle, advanced, interpolated, shown, sounded, voiceStep, PitchSource}
 use Rattle.dsp.proofs.Envelopes.{fit-kept-envelope}
 
 -- ---- the loop that consumes
@@ -135,29 +133,29 @@ resolved-apt ram s h = chosen (λ (t : Sounding). Apt (t .play)) (s .play .«buf
 
 -- ---- the position within a tick
 
-pub position-le : (p : Play) (pitch : ℕ) (x : Source) → positionOf p pitch x ≤ 0x7FFF
+pub position-le : (p : Play) (pitch : ℕ) (x : PitchSource) → positionOf p pitch x ≤ 0x7FFF
 unfolding positionOf
 position-le p pitch x = least-le (p .«pitch_counter» % 0x4000 + pitchOf pitch x) 0x7FFF
 
 -- it never goes back
-pub position-least : (p : Play) (pitch : ℕ) (x : Source) → p .«pitch_counter» % 0x4000 ≤ positionOf p pitch x
+pub position-least : (p : Play) (pitch : ℕ) (x : PitchSource) → p .«pitch_counter» % 0x4000 ≤ positionOf p pitch x
 unfolding positionOf
 position-least p pitch x =
     let P : ℕ → Type 0 = λ (n : ℕ). p .«pitch_counter» % 0x4000 ≤ n in
     chosen P (p .«pitch_counter» % 0x4000 + pitchOf pitch x ≤? 0x7FFF) (omega arith) (omega arith)
 
 -- at most 7 samples a tick
-pub seven : (p : Play) (pitch : ℕ) (x : Source) → samplesTaken p pitch x ≤ 7
+pub seven : (p : Play) (pitch : ℕ) (x : PitchSource) → samplesTaken p pitch x ≤ 7
 unfolding samplesTaken
 seven p pitch x = omega (arith, position-le p pitch x)
 
-pub advanced-ready : (ram : List ℕ) (dir srcn pitch : ℕ) (x : Source) (s : Sounding) → FitBlock (s .play) → FitBlock (advanced ram dir srcn pitch x s .play)
+pub advanced-ready : (ram : List ℕ) (dir srcn pitch : ℕ) (x : PitchSource) (s : Sounding) → FitBlock (s .play) → FitBlock (advanced ram dir srcn pitch x s .play)
 unfolding advanced
 advanced-ready ram dir srcn pitch x s h =
     let q : Sounding = record { play = withPosition (s .play) (positionOf (s .play) pitch x); samples = s .samples } in
     consumed-ready ram dir srcn (samplesTaken (s .play) pitch x) q (record { nibble = h .nibble; fill = h .fill })
 
-pub advanced-apt : (ram : List ℕ) (dir srcn pitch : ℕ) (x : Source) (s : Sounding) → Apt (s .play) → Apt (advanced ram dir srcn pitch x s .play)
+pub advanced-apt : (ram : List ℕ) (dir srcn pitch : ℕ) (x : PitchSource) (s : Sounding) → Apt (s .play) → Apt (advanced ram dir srcn pitch x s .play)
 unfolding advanced
 advanced-apt ram dir srcn pitch x s h =
     let q : Sounding = record { play = withPosition (s .play) (positionOf (s .play) pitch x); samples = s .samples } in
@@ -165,7 +163,7 @@ advanced-apt ram dir srcn pitch x s h =
 
 -- ---- the tick
 
-module _ (ram : List ℕ) (dir srcn pitch : ℕ) (x : Source) (envx : ℕ) where
+module _ (ram : List ℕ) (dir srcn pitch : ℕ) (x : PitchSource) (envx : ℕ) where
   pub rests : (s : Sounding) → idle (s .play) ≡ true → _≡_ {A = Stepped} (record { play = s .play; samples = s .samples; envx = envx }) (sounded ram dir srcn pitch x envx s)
   unfolding sounded
   rests s h = rw h
@@ -189,7 +187,7 @@ shown-ready : (p : Play) → FitBlock p → FitBlock (interpolated p)
 unfolding interpolated
 shown-ready p h = record { nibble = h .nibble; fill = h .fill }
 
-sounded-fit : (ram : List ℕ) (dir srcn pitch : ℕ) (x : Source) (envx : ℕ) (s : Sounding) → FitBlock (s .play) → Apt (s .play)
+sounded-fit : (ram : List ℕ) (dir srcn pitch : ℕ) (x : PitchSource) (envx : ℕ) (s : Sounding) → FitBlock (s .play) → Apt (s .play)
     → FitPlay (sounded ram dir srcn pitch x envx s .play)
 unfolding sounded
 sounded-fit ram dir srcn pitch x envx s r a =
@@ -200,7 +198,7 @@ sounded-fit ram dir srcn pitch x envx s r a =
     (record { envelope = a .envelope; position = a .position; block = r })
     (record { envelope = b .envelope; position = b .position; block = u })
 
-pub fit-kept-step : (ram : List ℕ) (dir srcn : ℕ) (f : Settings) (pitch : ℕ) (x : Source) (envx : ℕ) (s : Sounding) → FitSettings f
+pub fit-kept-step : (ram : List ℕ) (dir srcn : ℕ) (f : Settings) (pitch : ℕ) (x : PitchSource) (envx : ℕ) (s : Sounding) → FitSettings f
     → FitPlay (s .play) → FitPlay (voiceStep ram dir srcn f pitch x envx s .play)
 unfolding voiceStep
 fit-kept-step ram dir srcn f pitch x envx s g h =

@@ -10,12 +10,10 @@ use Rattle.numbers.specs.Signed.{minus}
 use Rattle.sound.specs.Clock.{periods, periodOf}
 use Rattle.sound.specs.Envelope.{lowered}
 use Rattle.sound.specs.Noise.{shifted}
-use Rattle.dsp.specs.Clock.{tickDue}
 use Rattle.dsp.specs.Envelope.{settled, decayTick, phaseTick, envelopeTick}
-use Rattle.dsp.specs.Voice.{pitchOf, positionOf, samplesTaken}
-use Rattle.dsp.specs.Lane.{keyedOn}
+use Rattle.dsp.specs.Keys.{keyedOn}
+use Rattle.dsp.specs.Voice.{pitchOf, positionOf, samplesTaken, plain, modulatedBy}
 use Rattle.dsp.specs.Readings.{Reading, readings, AllAsTheDocument}
-use Rattle.dsp.specs.declared.play.Source.the-variants.{From}
 
 -- the lowest source stops any pitch
 stopped : (base : ℕ) → pitchOf base (From (minus 32768)) ≡ 0

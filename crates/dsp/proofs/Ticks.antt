@@ -9,20 +9,21 @@ use lib.ListN.{getD, length, length-set}
 use Rattle.numbers.specs.Choice.{if_then_else_, _<?_}
 use Rattle.numbers.proofs.Choice.{chosen}
 use Rattle.numbers.specs.Bits.{bit}
-use Rattle.dsp.specs.Machine.{noVoice, apart, together}
-use Rattle.dsp.specs.Fit.{FitVoice, FitGlob, Fit}
-use Rattle.dsp.specs.Registers.{turns, resets, silenceVoice, silenceAll, writeParts, writeAt}
+use Rattle.numbers.specs.Listed.{turns}
+use Rattle.dsp.specs.Machine.{noVoice, apart, together, Globals}
+use Rattle.dsp.specs.Fit.{FitVoice, FitGlobals, Fit}
+use Rattle.dsp.specs.Registers.{resets, writeParts, writeAt}
+use Rattle.dsp.specs.Mix.{Stereo}
 use Rattle.dsp.specs.Sheet.{laneAt}
-use Rattle.dsp.specs.Echo.{EchoLane, echoTick, echoWritten, echoStored, echoFrom, echoLane}
-use Rattle.dsp.specs.Lane.{Cell, ownCell, shownCell, putBytes, turned}
-use Rattle.dsp.specs.Tick.{Round, turn, voicesTick, globTick, sharedFrom, sharedOf, mixed, tickOf, Bench, onward, benchTick, benchWrite, ticksOf, startOf}
+use Rattle.dsp.specs.Echo.{EchoLane, echoTick, echoWritten, echoFrom, echoLane}
+use Rattle.dsp.specs.Lane.{Cell, ownCell, shownCell, putBytes, turned, Shared}
+use Rattle.dsp.specs.Tick.{Round, turn, voicesTick, globalsTick, sharedOf, mixed, tickOf, startOf}
+use Rattle.dsp.specs.Ticks.{Bench, onward, benchTick, benchWrite, ticksOf}
+use Rattle.dsp.specs.Inside.{sharedFrom}
 use Rattle.dsp.specs.declared.voice.Voice.{Voice}
-use Rattle.dsp.specs.declared.lane.Shared.{Shared}
 use Rattle.dsp.specs.declared.registers.Dsp.{Dsp}
-use Rattle.dsp.specs.declared.registers.Glob.{Glob}
-use Rattle.dsp.specs.declared.mix.Stereo.{Stereo}
 use Rattle.dsp.specs.declared.tick.Work.{Work}
-use Rattle.dsp.proofs.Turns.{turns-keep, set-keeps}
+use Rattle.numbers.proofs.Turns.{turns-keep, set-keeps}
 use Rattle.dsp.proofs.Fits.{fit-kept-write}
 use Rattle.dsp.proofs.Envelopes.{fit-kept-noise}
 use Rattle.dsp.proofs.Echoes.{fit-kept-echo}
@@ -49,8 +50,8 @@ fit-kept-turn mask old c ram j r l h =
     let d = getD (r .delays) j 0 in
     let b = r .bytes in
     let w = bit mask j in
-    let x : Cell = if w then ownCell c ram j (r .acc .prev) v d b else shownCell (laneAt j old) v d in
-    let k = fit-kept-either w c ram j (r .acc .prev) v d b (laneAt j old) (h .voices j l) (h .delays j l) in
+    let x : Cell = if w then ownCell c ram j (r .sums .prev) v d b else shownCell (laneAt j old) v d in
+    let k = fit-kept-either w c ram j (r .sums .prev) v d b (laneAt j old) (h .voices j l) (h .delays j l) in
     record {
       bytes = put-sized j (x .envx) (x .out) (x .endx) b ∙ h .bytes;
       count = length-set (r .voices) j (x .voice) ∙ h .count;
@@ -64,8 +65,8 @@ fit-kept-turns mask old c ram n r l h = turns-keep RoundFit (turn mask old c ram
 
 -- ---- the machine
 
-pub glob-kept : (g : Glob) → FitGlob g → FitGlob (globTick g)
-unfolding globTick
+pub glob-kept : (g : Globals) → FitGlobals g → FitGlobals (globalsTick g)
+unfolding globalsTick
 glob-kept g h =
     let n = fit-kept-noise (g .flg) (g .noise) (record { lfsr = h .lfsr; counter = h .counter }) in
     record {
@@ -79,21 +80,21 @@ glob-kept g h =
       within = h .within;
     }
 
-written-sized : (g : Glob) (ram : List ℕ) (l r : ℤ) → length (echoWritten g ram l r) ≡ length ram
+written-sized : (g : Globals) (ram : List ℕ) (l r : ℤ) → length (echoWritten g ram l r) ≡ length ram
 unfolding echoWritten echoStored
 written-sized g ram l r = chosen (λ (xs : List ℕ). length xs ≡ length ram) (bit (g .flg) 5) refl (simp length-set)
 
 -- RAM keeps its length, and the echo's numbers stay fit
 pub record EchoFit (size : ℕ) (e : EchoLane) : Type 0 where
   pub ram : length (e .echo .ram) ≡ size
-  pub glob : FitGlob (e .echo .glob)
+  pub globals : FitGlobals (e .echo .globals)
 
-pub fit-kept-echo-lane : (worked : Bool) (g : Glob) (taps left right : List ℤ) (ram : List ℕ) (input : Stereo) (slot : List ℕ) → FitGlob g
+pub fit-kept-echo-lane : (worked : Bool) (g : Globals) (taps left right : List ℤ) (ram : List ℕ) (input : Stereo) (slot : List ℕ) → FitGlobals g
     → EchoFit (length ram) (echoLane worked g taps left right ram input slot)
 unfolding echoLane echoTick echoFrom
 fit-kept-echo-lane worked g taps left right ram input slot f =
     chosen (EchoFit (length ram)) worked
-    (record { ram = written-sized _ _ _ _; glob = fit-kept-echo _ _ _ f })
+    (record { ram = written-sized _ _ _ _; globals = fit-kept-echo _ _ _ f })
     (record {
       ram = refl;
       glob =
@@ -112,34 +113,34 @@ fit-kept-echo-lane worked g taps left right ram input slot f =
 pub record BenchFit (b : Bench) : Type 0 where
   pub ram : length (b .ram) ≡ 0x10000
   pub round : RoundFit (startOf (b .parts))
-  pub glob : FitGlob (b .parts .glob)
+  pub globals : FitGlobals (b .parts .globals)
 
 -- the parts of a tick make it
-pub glued : (w : Work) (b : Bench) (h : Glob) (c : Shared) (r : Round) (e : EchoLane) → h ≡ globTick (b .parts .glob)
-    → c ≡ sharedFrom (b .parts .glob) (h .noise) (getD (b .parts .registers) 0x5C 0) (getD (b .parts .registers) 0x5D 0)
+pub glued : (w : Work) (b : Bench) (h : Globals) (c : Shared) (r : Round) (e : EchoLane) → h ≡ globalsTick (b .parts .globals)
+    → c ≡ sharedFrom (b .parts .globals) (h .noise) (getD (b .parts .registers) 0x5C 0) (getD (b .parts .registers) 0x5D 0)
     → r ≡ turns (turn (w .voices) (b .old) c (b .ram)) 8 (startOf (b .parts))
-    → e ≡ echoLane (w .echo) h (b .parts .taps) (b .parts .left) (b .parts .right) (b .ram) (r .acc .input) (laneAt 8 (b .old))
+    → e ≡ echoLane (w .echo) h (b .parts .taps) (b .parts .left) (b .parts .right) (b .ram) (r .sums .input) (laneAt 8 (b .old))
     → onward b (mixed (b .parts .taps) r e) ≡ benchTick w b
-unfolding benchTick tickOf voicesTick globTick
+unfolding benchTick tickOf voicesTick globalsTick
 glued w b h c r e eh ec er ee =
     let p = b .parts in
-    let ec′ = ec ∙ (λ i. sharedFrom (p .glob) (eh i .noise) (getD (p .registers) 0x5C 0) (getD (p .registers) 0x5D 0)) in
+    let ec′ = ec ∙ (λ i. sharedFrom (p .globals) (eh i .noise) (getD (p .registers) 0x5C 0) (getD (p .registers) 0x5D 0)) in
     let er′ = er ∙ (λ i. turns (turn (w .voices) (b .old) (ec′ i) (b .ram)) 8 (startOf p)) in
-    let ee′ = ee ∙ (λ i. echoLane (w .echo) (eh i) (p .taps) (p .left) (p .right) (b .ram) (er′ i .acc .input) (laneAt 8 (b .old))) in
+    let ee′ = ee ∙ (λ i. echoLane (w .echo) (eh i) (p .taps) (p .left) (p .right) (b .ram) (er′ i .sums .input) (laneAt 8 (b .old))) in
     λ i. onward b (mixed (p .taps) (er′ i) (ee′ i))
 
 pub fit-kept-bench : (w : Work) (b : Bench) → BenchFit b → BenchFit (benchTick w b)
 unfolding benchTick tickOf voicesTick
 fit-kept-bench w b h =
     let p = b .parts in
-    let c = sharedOf (p .glob) (p .registers) in
+    let c = sharedOf (p .globals) (p .registers) in
     let t = turns (turn (w .voices) (b .old) c (b .ram)) 8 (startOf p) in
     let r = fit-kept-turns (w .voices) (b .old) c (b .ram) 8 (startOf p) (omega arith) (h .round) in
-    let e = fit-kept-echo-lane (w .echo) (globTick (p .glob)) (p .taps) (p .left) (p .right) (b .ram) (t .acc .input) (laneAt 8 (b .old)) (glob-kept (p .glob) (h .glob)) in
+    let e = fit-kept-echo-lane (w .echo) (globalsTick (p .globals)) (p .taps) (p .left) (p .right) (b .ram) (t .sums .input) (laneAt 8 (b .old)) (glob-kept (p .globals) (h .globals)) in
     record {
       ram = e .ram ∙ h .ram;
       round = record { bytes = r .bytes; count = r .count; waits = r .waits; voices = r .voices; delays = r .delays };
-      glob = e .glob;
+      globals = e .globals;
     }
 
 pub fit-kept-ticks : (w : Work) (n : ℕ) (b : Bench) → BenchFit b → BenchFit (ticksOf w n b)
@@ -149,13 +150,13 @@ fit-kept-ticks w (suc n) b h = fit-kept-bench w (ticksOf w n b) (fit-kept-ticks 
 
 -- the record of fit parts is fit
 pub bench-fit : (b : Bench) → BenchFit b → Fit (together (b .parts))
-bench-fit b h = record { glob = h .glob; voices = h .round .voices; delays = h .round .delays }
+bench-fit b h = record { globals = h .globals; voices = h .round .voices; delays = h .round .delays }
 
 -- and the other way: the arrays of a record of the language have these lengths
 pub fit-bench : (d : Dsp) (ram pcm sheet old : List ℕ) → length ram ≡ 0x10000 → length (d .registers) ≡ 128 → length (d .voices) ≡ 8 → length (d .«kon_delay») ≡ 8 → Fit d
     → BenchFit (record { parts = apart d; ram = ram; pcm = pcm; sheet = sheet; old = old })
 fit-bench d ram pcm sheet old lr lb lv ld h =
-    record { ram = lr; round = record { bytes = lb; count = lv; waits = ld; voices = h .voices; delays = h .delays }; glob = h .glob }
+    record { ram = lr; round = record { bytes = lb; count = lv; waits = ld; voices = h .voices; delays = h .delays }; globals = h .globals }
 
 -- a tick of a fit record leaves a fit one
 pub fit-kept-tick : (w : Work) (d : Dsp) (ram old : List ℕ) → length ram ≡ 0x10000 → length (d .registers) ≡ 128 → length (d .voices) ≡ 8 → length (d .«kon_delay») ≡ 8 → Fit d
@@ -192,5 +193,5 @@ fit-kept-bench-write i x b li lx h =
             voices = f .voices;
             delays = f .delays;
           };
-      glob = f .glob;
+      globals = f .globals;
     }

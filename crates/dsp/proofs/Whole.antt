@@ -8,19 +8,17 @@ use borrow.Author.Count.{below-none, below-more}
 use lib.IntN.{ℤ}
 use lib.ListN.{getD, set, length}
 use Rattle.numbers.specs.Bits.{bit}
-use Rattle.dsp.specs.Machine.{noVoice, Parts, globOf, apart, together}
-use Rattle.dsp.specs.Registers.{turns}
-use Rattle.dsp.specs.Mix.{outputOf, silent, withVoice, dryTurn, dryOf, masterOf, renderOf}
-use Rattle.dsp.specs.Sheet.{pairBytes}
+use Rattle.numbers.specs.Listed.{turns}
+use Rattle.dsp.specs.Machine.{noVoice, Parts, globalsOf, apart, together}
 use Rattle.dsp.specs.Fit.{Fit}
+use Rattle.dsp.specs.Mix.{outputOf, silent, withVoice, dryOf, masterOf, renderOf, Stereo}
+use Rattle.dsp.specs.Sheet.{pairBytes}
 use Rattle.dsp.specs.Echo.{echoLane}
-use Rattle.dsp.specs.Lane.{cellAfter, cellOf, ownCell, added, turned}
+use Rattle.dsp.specs.Lane.{cellAfter, cellOf, ownCell, added, turned, Shared}
 use Rattle.dsp.specs.Tick.{Round, turn, voicesTick, everything, startOf, sharedOf, mixedFrom, frameOf, tickOf}
 use Rattle.dsp.specs.declared.voice.Voice.{Voice}
-use Rattle.dsp.specs.declared.mix.Stereo.{Stereo}
 use Rattle.dsp.specs.declared.registers.Dsp.{Dsp}
-use Rattle.dsp.specs.declared.lane.Shared.{Shared}
-use Rattle.dsp.proofs.Turns.{turns-same, set-here, set-there}
+use Rattle.numbers.proofs.Turns.{turns-same, set-here, set-there}
 use Rattle.dsp.proofs.Ticks.{RoundFit, fit-kept-turns, fit-kept-tick}
 use Rattle.dsp.proofs.Fits.{facts-fit}
 
@@ -41,7 +39,7 @@ turn-whole old found c ram j r l = rw (full j l)
 pub tick-whole : (old found : List ℕ) (p : Parts) (ram : List ℕ) → tickOf everything old p ram ≡ tickOf everything found p ram
 unfolding tickOf voicesTick echoLane
 tick-whole old found p ram =
-    let c = sharedOf (p .glob) (p .registers) in
+    let c = sharedOf (p .globals) (p .registers) in
     ap (mixedFrom true old p ram) (turns-same (turn 0xFF old c ram) (turn 0xFF found c ram) 8 (turn-whole old found c ram) 8 (startOf p) (omega arith))
 
 -- ---- a tick is `step`, then `render_audio_single`
@@ -60,18 +58,18 @@ dry-before vs y n k s l =
     (λ m a h. ap (λ (v : Voice). withVoice (outputOf v) (v .«left_vol») (v .«right_vol») a) (set-there noVoice vs n m y h)) k s l
 
 -- after n voices the dry sum is that of the first n, as they now stand
-dry-after : (old : List ℕ) (c : Shared) (ram : List ℕ) (n : ℕ) (r : Round) → n ≤ 8 → RoundFit r → r .acc .dry ≡ silent
-    → turns (turn 0xFF old c ram) n r .acc .dry ≡ turns (dryTurn (turns (turn 0xFF old c ram) n r .voices)) n silent
+dry-after : (old : List ℕ) (c : Shared) (ram : List ℕ) (n : ℕ) (r : Round) → n ≤ 8 → RoundFit r → r .sums .dry ≡ silent
+    → turns (turn 0xFF old c ram) n r .sums .dry ≡ turns (dryTurn (turns (turn 0xFF old c ram) n r .voices)) n silent
 unfolding turns turn turned added dryTurn
 dry-after old c ram zero r l f e = e
 dry-after old c ram (suc n) r l f e =
     let s = turns (turn 0xFF old c ram) n r in
     let g = fit-kept-turns 0xFF old c ram n r (omega arith) f in
-    let x = ownCell c ram n (s .acc .prev) (getD (s .voices) n noVoice) (getD (s .delays) n 0) (s .bytes) in
+    let x = ownCell c ram n (s .sums .prev) (getD (s .voices) n noVoice) (getD (s .delays) n 0) (s .bytes) in
     let y = x .voice in
     let h = set-here noVoice (s .voices) n y (omega (arith, g .count)) in
     rw (full n (omega arith))
-    ((λ i. withVoice (out-is c ram n (s .acc .prev) (getD (s .voices) n noVoice) (getD (s .delays) n 0) (s .bytes) i) (y .«left_vol») (y .«right_vol») ((dry-after old c ram n r (omega arith) f e ∙ sym (dry-before (s .voices) y n n silent (omega arith))) i))
+    ((λ i. withVoice (out-is c ram n (s .sums .prev) (getD (s .voices) n noVoice) (getD (s .delays) n 0) (s .bytes) i) (y .«left_vol») (y .«right_vol») ((dry-after old c ram n r (omega arith) f e ∙ sym (dry-before (s .voices) y n n silent (omega arith))) i))
     ∙ (λ i. withVoice (outputOf (sym h i)) (sym h i .«left_vol») (sym h i .«right_vol») (turns (dryTurn (set (s .voices) n y)) n silent)))
 
 -- the sample of a tick is the stereo sample of the record that it leaves
@@ -82,5 +80,5 @@ unfolding tickOf voicesTick renderOf dryOf
 tick-renders d ram old lr lb lv ld h =
     let p = apart d in
     let f = facts-fit _ (fit-kept-tick everything d ram old lr lb lv ld h) in
-    let e = dry-after old (sharedOf (p .glob) (p .registers)) ram 8 (startOf p) (omega arith) (record { bytes = lb; count = lv; waits = ld; voices = h .voices; delays = h .delays }) refl in
-    rw f (ap (λ (s : Stereo). frameOf (masterOf (globOf (together (tickOf everything old p ram .parts))) s)) e)
+    let e = dry-after old (sharedOf (p .globals) (p .registers)) ram 8 (startOf p) (omega arith) (record { bytes = lb; count = lv; waits = ld; voices = h .voices; delays = h .delays }) refl in
+    rw f (ap (λ (s : Stereo). frameOf (masterOf (globalsOf (together (tickOf everything old p ram .parts))) s)) e)

@@ -12,11 +12,11 @@ use borrow.Author.Tests.{lt-ltb, le-ltb, le-leb, lt-leb, eq-eqb, ne-eqb}
 use Rattle.numbers.specs.Choice.{if_then_else_, _≤?_, _=?_}
 use Rattle.numbers.specs.Signed.{cutZ}
 use Rattle.numbers.proofs.Choice.{chosen}
-use Rattle.dsp.specs.Machine.{noVoice, globOf, together, withGlob}
-use Rattle.dsp.specs.Registers.{at, writeVoice, globWrite, endxWrite, silenceAll, writeParts, writeAt}
+use Rattle.dsp.specs.Machine.{noVoice, globalsOf, together, Globals}
+use Rattle.dsp.specs.Registers.{at, writeVoice, globalsAfter, endxWrite, writeParts, writeAt}
+use Rattle.dsp.specs.Inside.{withGlobals}
 use Rattle.dsp.specs.declared.voice.Voice.{Voice}
 use Rattle.dsp.specs.declared.registers.Dsp.{Dsp}
-use Rattle.dsp.specs.declared.registers.Glob.{Glob}
 
 -- ---- numbers that are none of a list
 
@@ -42,7 +42,7 @@ none-eqb (q ∷ rs) i h r t =
 abbrev pub globals : List ℕ
 globals = 0x6C ∷ 0x7D ∷ 0x6D ∷ 0x4D ∷ 0x0D ∷ 0x3C ∷ 0x2C ∷ 0x2D ∷ 0x3D ∷ 0x5D ∷ 0x1C ∷ 0x0C ∷ 0x4C ∷ []
 
-pub glob-kept : (i x : ℕ) (g : Glob) → NoneOf globals i → globWrite i x g ≡ g
+pub glob-kept : (i x : ℕ) (g : Globals) → NoneOf globals i → globalsAfter i x g ≡ g
 glob-kept i x g h = let e = none-eqb globals i h in simp e
 
 -- $7C takes its byte as any register does
@@ -62,7 +62,7 @@ stored i x voices taps d =
       taps = taps;
       left = d .«fir_history_l»;
       right = d .«fir_history_r»;
-      glob = globOf d;
+      globals = globalsOf d;
     })
 
 pub voice-write : (i x : ℕ) (d : Dsp) → i % 16 < 8
@@ -92,11 +92,11 @@ reset d =
       taps = d .«fir_coeff»;
       left = d .«fir_history_l»;
       right = d .«fir_history_r»;
-      glob = globOf d;
+      globals = globalsOf d;
     })
 
 abbrev pub globWritten : ℕ → ℕ → Dsp → Dsp
-globWritten i x d = withGlob d (globWrite i x (globOf d))
+globWritten i x d = withGlobals d (globalsAfter i x (globalsOf d))
 
 global-write : (i x : ℕ) (d : Dsp) → 8 ≤ i % 16 → (i % 16 ≡ 15 → ⊥)
     → let e = globWritten i x (stored i x (d .voices) (d .«fir_coeff») d) in writeAt i x d ≡ (if (i =? 0x6C) && (0x80 ≤? x) then reset e else e)

@@ -2,8 +2,8 @@
 use mathlib.Core.Bool.{Bool}
 use mathlib.Core.List.{List}
 use Prim.Native.Nat.{ℕ}
+use Rattle.dsp.specs.PowerOn.{newDsp}
 use Rattle.dsp.specs.Brr.{decodeNibble}
-use Rattle.dsp.specs.Machine.{newDsp}
 use Rattle.replay.specs.Records.{byteAt, i8At, i16At, _=ℤ?_}
 use Rattle.replay.specs.Block.{blockEqual}
 use Rattle.replay.specs.Interpolation.{interpolationEqual}

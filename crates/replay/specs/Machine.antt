@@ -4,8 +4,9 @@ use mathlib.Core.List.{List}
 use Prim.Native.Nat.{ℕ}
 use lib.IntN.{ℤ, pos}
 use lib.ListN.{getD, replicate, set}
-use Rattle.dsp.specs.Machine.{noVoice, newDsp, globOf, together}
-use Rattle.dsp.specs.Tick.{After, stepOf}
+use Rattle.dsp.specs.Machine.{noVoice, globalsOf, together}
+use Rattle.dsp.specs.PowerOn.{newDsp}
+use Rattle.dsp.specs.Ticks.{After, stepOf}
 use Rattle.dsp.specs.declared.adsr.EnvelopePhase.the-variants.{Attack}
 use Rattle.dsp.specs.declared.adsr.Adsr.{Adsr}
 use Rattle.dsp.specs.declared.brr.Brr.{Brr}
@@ -68,7 +69,7 @@ withVoice d v =
       taps = d .«fir_coeff»;
       left = d .«fir_history_l»;
       right = d .«fir_history_r»;
-      glob = globOf d;
+      globals = globalsOf d;
     })
 
 abbrev pub answerOf : After → Answer

@@ -3,11 +3,12 @@ use mathlib.Core.Bool.{_&&_}
 use mathlib.Core.List.{List}
 use Prim.Native.Nat.{ℕ}
 use Rattle.numbers.specs.Choice.{_=?_}
-use Rattle.dsp.specs.Machine.{newDsp, globOf, withGlob}
-use Rattle.dsp.specs.Tick.{stepOf}
+use Rattle.dsp.specs.Machine.{globalsOf, Globals}
+use Rattle.dsp.specs.PowerOn.{newDsp}
+use Rattle.dsp.specs.Ticks.{stepOf}
+use Rattle.dsp.specs.Inside.{withGlobals}
 use Rattle.dsp.specs.declared.registers.Answer.{Answer}
 use Rattle.dsp.specs.declared.registers.Dsp.{Dsp}
-use Rattle.dsp.specs.declared.registers.Glob.{Glob}
 use Rattle.replay.specs.Records.{byteAt, i16At, _=ℤ?_}
 use Rattle.replay.specs.Machine.{zeros, answerOf, soundOf}
 use Rattle.replay.specs.declared.records.Carry.{Carry}
@@ -17,7 +18,7 @@ abbrev pub carryOf : Dsp → Carry
 carryOf d = record { lfsr = d .«noise_lfsr»; counter = d .«noise_tick_counter» }
 
 -- g with this FLG and this noise, which all voices give
-abbrev pub noisyGlob : ℕ → Carry → Glob → Glob
+abbrev pub noisyGlob : ℕ → Carry → Globals → Globals
 noisyGlob flg n g =
     record {
       «dir_base» = g .«dir_base»;
@@ -42,7 +43,7 @@ noisyGlob flg n g =
     }
 
 abbrev pub noisy : ℕ → Carry → Dsp → Dsp
-noisy flg n d = withGlob d (noisyGlob flg n (globOf d))
+noisy flg n d = withGlobals d (noisyGlob flg n (globalsOf d))
 
 unfoldable pub noiseTick : ℕ → Carry → Answer
 noiseTick flg n = answerOf (stepOf (noisy flg n newDsp) zeros)

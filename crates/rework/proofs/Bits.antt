@@ -15,9 +15,9 @@ use Rattle.numbers.specs.Choice.{if_then_else_}
 use Rattle.numbers.proofs.Choice.{tested, chosen}
 use Rattle.numbers.specs.Bits.{bit, withBit}
 use Rattle.numbers.proofs.Bits.{digit, digit-half, byte-ext, bit-here, bit-there, with-byte}
-use Rattle.dsp.specs.Registers.{turns}
+use Rattle.numbers.specs.Listed.{turns}
 use Rattle.dsp.proofs.Tests.{Decides, _and_}
-use Rattle.dsp.proofs.Turns.{turns-keep}
+use Rattle.numbers.proofs.Turns.{turns-keep}
 use Rattle.rework.specs.Members.{joinAfter, joinedBy, counted, voicesIn}
 
 -- ---- digits

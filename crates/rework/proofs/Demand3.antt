@@ -9,7 +9,8 @@ use borrow.Author.Tests.{eq-eqb}
 use Rattle.dsp.specs.Machine.{Parts, apart, together}
 use Rattle.dsp.specs.Fit.{fit}
 use Rattle.dsp.specs.Sheet.{laneAt}
-use Rattle.dsp.specs.Tick.{everything, benchOf}
+use Rattle.dsp.specs.Tick.{everything}
+use Rattle.dsp.specs.Ticks.{benchOf}
 use Rattle.dsp.specs.declared.registers.Dsp.{Dsp}
 use Rattle.log.specs.Log.{decode}
 use Rattle.log.specs.Measure.{measureOf}
@@ -57,7 +58,7 @@ same-self a p =
       taps = refl;
       left = refl;
       right = refl;
-      glob = refl;
+      globals = refl;
     }
 
 sim-self : (a : ℕ) (p : Parts) → length (p .voices) ≡ 8 → length (p .delays) ≡ 8 → Sim a p p
@@ -70,7 +71,7 @@ sim-self a p lv ld =
       lefts = λ j l. refl;
       rights = λ j l. refl;
       delays = λ j l o. refl;
-      glob = refl;
+      globals = refl;
     }
 
 sized : {p : Parts} → Value p → Sized p
@@ -92,7 +93,7 @@ module _ (s : ℕ) (d₁ d₂ : Dsp) (ram log₁ log₂ : List ℕ) (same : Same
 
   -- the fields that decide are the same
   modes-same : modesOf d₁ ≡ modesOf d₂
-  modes-same = ap modesIn (same .glob)
+  modes-same = ap modesIn (same .globals)
 
   set-same : members rs₁ (modesOf d₁) s ≡ setOf s d₂ log₂
   set-same =

@@ -58,4 +58,4 @@ end-parts a x y z h k l m r s =
     let b = ap (λ (n : List ℕ). pickedBytes a n (y .registers)) (r .bytes) ∙ bytes-all a (y .registers) (z .registers) (k .registers) l m (s .bytes) in
     let v = picked-all noVoice a (x .voices) (y .voices) (z .voices) (k .voices) (r .voices) (s .voices) in
     let d = picked-all 0 a (x .delays) (y .delays) (z .delays) (k .delays) (r .delays) (s .delays) in
-    λ i. record { registers = b i; voices = v i; delays = d i; taps = s .taps i; left = s .left i; right = s .right i; glob = s .glob i }
+    λ i. record { registers = b i; voices = v i; delays = d i; taps = s .taps i; left = s .left i; right = s .right i; globals = s .globals i }

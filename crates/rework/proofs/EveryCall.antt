@@ -9,10 +9,12 @@ use borrow.Author.Tests.{eqb-true}
 use Rattle.numbers.specs.Choice.{if_then_else_, _<?_, _=?_}
 use Rattle.numbers.proofs.Choice.{tested, chosen}
 use Rattle.numbers.specs.Bits.{bit}
-use Rattle.dsp.specs.Machine.{noVoice, newDsp, apart, together}
+use Rattle.dsp.specs.Machine.{noVoice, apart, together}
+use Rattle.dsp.specs.PowerOn.{newDsp}
 use Rattle.dsp.specs.Fit.{fit, FitVoice}
 use Rattle.dsp.specs.Registers.{Written, writeOf}
-use Rattle.dsp.specs.Tick.{everything, Bench, benchOf, benchTick, ticksOf, After, stepOf, Drove, driveOf}
+use Rattle.dsp.specs.Tick.{everything}
+use Rattle.dsp.specs.Ticks.{Bench, benchOf, benchTick, ticksOf, After, stepOf, Drove, driveOf}
 use Rattle.dsp.specs.declared.registers.Dsp.{Dsp}
 use Rattle.dsp.specs.declared.tick.Work.{Work}
 use Rattle.dsp.proofs.Fits.{fit-facts, facts-fit, new-fit, fit-kept-write}
@@ -108,7 +110,7 @@ end-fit a new old f g =
     let q = fit-facts old g in
     facts-fit _
     (record {
-      glob = q .glob;
+      globals = q .globals;
       voices = λ j l. picked-keeps FitVoice noVoice a (new .voices) (old .voices) j l (p .voices j l) (q .voices j l);
       delays = λ j l. picked-keeps (λ (n : ℕ). n ≤ 5) 0 a (new .«kon_delay») (old .«kon_delay») j l (p .delays j l) (q .delays j l);
     })

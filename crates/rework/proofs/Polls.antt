@@ -16,18 +16,18 @@ use Rattle.numbers.specs.Signed.{highZ}
 use Rattle.numbers.proofs.Choice.{chosen}
 use Rattle.numbers.specs.Bits.{bit, withBit}
 use Rattle.numbers.proofs.Bits.{bit-here, bit-there, with-byte, byte-ext}
+use Rattle.numbers.specs.Listed.{turns}
 use Rattle.dsp.specs.Machine.{noVoice, apart}
+use Rattle.dsp.specs.With.{withKey}
 use Rattle.dsp.specs.Envelope.{isOff}
-use Rattle.dsp.specs.Voice.{withKey}
-use Rattle.dsp.specs.Registers.{turns}
+use Rattle.dsp.specs.Keys.{keyedOff, keyedOn, polledDelay}
 use Rattle.dsp.specs.Sheet.{laneBytes}
-use Rattle.dsp.specs.Lane.{settingsOf, playOf, voiceOf, keyedOff, keyedOn, delayOf, waited, sourceOf, Cell, polledOf, waitedOf, cellAfter, cellOf, putEndx, putBytes, added, ownCell, turned}
-use Rattle.dsp.specs.Tick.{Round, turn, voicesTick, globTick, sharedFrom, sharedOf, startOf, tickOf}
+use Rattle.dsp.specs.Lane.{waited, sourceOf, Cell, polledOf, waitedOf, cellAfter, cellOf, putEndx, putBytes, added, ownCell, turned, Shared}
+use Rattle.dsp.specs.Tick.{Round, turn, voicesTick, globalsTick, sharedOf, startOf, tickOf}
+use Rattle.dsp.specs.Inside.{settingsOf, sharedFrom}
 use Rattle.dsp.specs.declared.adsr.EnvelopePhase.the-variants.{Release}
-use Rattle.dsp.specs.declared.lane.Shared.{Shared}
 use Rattle.dsp.specs.declared.voice.Voice.{Voice}
-use Rattle.dsp.specs.declared.play.Play.{Play}
-use Rattle.dsp.proofs.Turns.{turns-keep, turns-same}
+use Rattle.numbers.proofs.Turns.{turns-keep, turns-same}
 use Rattle.dsp.proofs.Whole.{full, tick-whole}
 use Rattle.rework.specs.Order.{polledVoice, Polled, pollOne, polledParts, echoBehind, PollFirst}
 use Rattle.rework.proofs.Shows.{put-sized, put-endx}
@@ -101,14 +101,14 @@ module _ (c : Shared) (ram : List ℕ) where
 
   -- a voice that was polled steps as one that polls itself
   cell-behind : (n : ℕ) (prev : ℤ) (v : Voice) (delay srcn envx : ℕ) (e : Bool)
-      → cellOf (behind c) ram n prev (polledVoice (off n) (on n) (c .«dir_base») v) (delayOf (on n) delay) srcn envx (if on n then false else e) ≡ cellOf c ram n prev v delay srcn envx e
+      → cellOf (behind c) ram n prev (polledVoice (off n) (on n) (c .«dir_base») v) (polledDelay (on n) delay) srcn envx (if on n then false else e) ≡ cellOf c ram n prev v delay srcn envx e
   unfolding cellOf cellAfter waitedOf polledOf keyedOff keyedOn
   cell-behind n prev v delay srcn envx e =
       let w = polledVoice (off n) (on n) (c .«dir_base») v in
       let p = playOf (if on n then false else e) w in
       let by : ℕ → Play → Cell = (λ d q. cellAfter c n v (waited ram (c .dir) srcn (settingsOf v) (v .pitch) (sourceOf (c .pmon) n prev) envx d (record { play = q; samples = v .brr .«sample_buffer» }))) in
-      ap (λ (b : Bool). by (delayOf b (delayOf (on n) delay)) (keyedOn b (c .«dir_base») (w .srcn) (keyedOff b p))) (no-bit n)
-      ∙ ap (by (delayOf (on n) delay)) (polled-play (off n) (on n) (c .«dir_base») v e)
+      ap (λ (b : Bool). by (polledDelay b (polledDelay (on n) delay)) (keyedOn b (c .«dir_base») (w .srcn) (keyedOff b p))) (no-bit n)
+      ∙ ap (by (polledDelay (on n) delay)) (polled-play (off n) (on n) (c .«dir_base») v e)
 
   -- ---- rounds
 
@@ -119,16 +119,16 @@ module _ (c : Shared) (ram : List ℕ) where
         voices = set (r .voices) n (x .voice);
         delays = set (r .delays) n (x .delay);
         bytes = putBytes n (x .envx) (x .out) (x .endx) (r .bytes);
-        acc = added (bit (c .eon) n) (x .out) (x .voice .«left_vol») (x .voice .«right_vol») (r .acc);
+        sums = added (bit (c .eon) n) (x .out) (x .voice .«left_vol») (x .voice .«right_vol») (r .sums);
         row = r .row ++ laneBytes (x .out) (x .envx) (x .endx);
       }
 
   -- a turn in which the voice polls itself, and one behind the poll
   abbrev whole : ℕ → Round → Round
-  whole n r = put n r (ownCell c ram n (r .acc .prev) (getD (r .voices) n noVoice) (getD (r .delays) n 0) (r .bytes))
+  whole n r = put n r (ownCell c ram n (r .sums .prev) (getD (r .voices) n noVoice) (getD (r .delays) n 0) (r .bytes))
 
   abbrev step : ℕ → Round → Round
-  step n r = put n r (ownCell (behind c) ram n (r .acc .prev) (getD (r .voices) n noVoice) (getD (r .delays) n 0) (r .bytes))
+  step n r = put n r (ownCell (behind c) ram n (r .sums .prev) (getD (r .voices) n noVoice) (getD (r .delays) n 0) (r .bytes))
 
   turn-is : (old : List ℕ) (n : ℕ) (r : Round) → n < 8 → turn 0xFF old c ram n r ≡ whole n r
   unfolding turn turned
@@ -140,7 +140,7 @@ module _ (c : Shared) (ram : List ℕ) where
 
   -- the poll of voice j in a round
   abbrev in-round : Round → Polled → Round
-  in-round r p = record { voices = p .voices; delays = p .delays; bytes = p .registers; acc = r .acc; row = r .row }
+  in-round r p = record { voices = p .voices; delays = p .delays; bytes = p .registers; sums = r .sums; row = r .row }
 
   abbrev of-round : Round → Polled
   of-round r = record { voices = r .voices; delays = r .delays; registers = r .bytes }
@@ -255,21 +255,21 @@ module _ (c : Shared) (ram : List ℕ) where
       let b = r .bytes in
       let v = getD (r .voices) n noVoice in
       let w = polledVoice (off n) (on n) (c .«dir_base») v in
-      let d = delayOf (on n) (getD (r .delays) n 0) in
+      let d = polledDelay (on n) (getD (r .delays) n 0) in
       let ev = getD-set-same (r .voices) n w noVoice (omega (arith, h .voices)) in
       let ed = getD-set-same (r .delays) n d 0 (omega (arith, h .delays)) in
       let es = poll-byte (on n) n (n * 16 + 4) b (λ q. absurd (omega (arith, l, q))) in
       let ex = poll-byte (on n) n (n * 16 + 8) b (λ q. absurd (omega (arith, l, q))) in
       let ee = poll-own (on n) n b l (h .bytes) in
-      let x = ownCell c ram n (r .acc .prev) v (getD (r .delays) n 0) b in
+      let x = ownCell c ram n (r .sums .prev) v (getD (r .delays) n 0) b in
       ap (put n (poll n r))
-      ((λ i. cellOf (behind c) ram n (r .acc .prev) (ev i) (ed i) (es i) (ex i) (ee i))
-      ∙ cell-behind n (r .acc .prev) v (getD (r .delays) n 0) (getD b (n * 16 + 4) 0) (getD b (n * 16 + 8) 0) (bit (getD b 0x7C 0) n))
+      ((λ i. cellOf (behind c) ram n (r .sums .prev) (ev i) (ed i) (es i) (ex i) (ee i))
+      ∙ cell-behind n (r .sums .prev) v (getD (r .delays) n 0) (getD b (n * 16 + 4) 0) (getD b (n * 16 + 8) 0) (bit (getD b 0x7C 0) n))
       ∙ (λ i. record {
         voices = set-set (r .voices) n w (x .voice) i;
         delays = set-set (r .delays) n d (x .delay) i;
         bytes = put-own (on n) n (x .envx) (x .out) (x .endx) b l (h .bytes) (h .endx) i;
-        acc = whole n r .acc;
+        sums = whole n r .sums;
         row = whole n r .row;
       })
 
@@ -282,22 +282,22 @@ module _ (c : Shared) (ram : List ℕ) where
       let far : n ≢ j = (λ e. absurd (omega (arith, q, e))) in
       let w : Voice → Voice = polledVoice (off j) (on j) (c .«dir_base») in
       let ev = getD-set-other (r .voices) j n (w (getD (r .voices) j noVoice)) noVoice far in
-      let ed = getD-set-other (r .delays) j n (delayOf (on j) (getD (r .delays) j 0)) 0 far in
+      let ed = getD-set-other (r .delays) j n (polledDelay (on j) (getD (r .delays) j 0)) 0 far in
       let es = poll-byte (on j) j (n * 16 + 4) b (λ e. absurd (omega (arith, l, e))) in
       let ex = poll-byte (on j) j (n * 16 + 8) b (λ e. absurd (omega (arith, l, e))) in
       let ee = poll-past (on j) n j b l m far (h .bytes) in
-      let x = ownCell (behind c) ram n (r .acc .prev) (getD (r .voices) n noVoice) (getD (r .delays) n 0) b in
+      let x = ownCell (behind c) ram n (r .sums .prev) (getD (r .voices) n noVoice) (getD (r .delays) n 0) b in
       let back : j ≢ n = (λ e. far (sym e)) in
-      ap (put n (poll j r)) (λ i. cellOf (behind c) ram n (r .acc .prev) (ev i) (ed i) (es i) (ex i) (ee i))
+      ap (put n (poll j r)) (λ i. cellOf (behind c) ram n (r .sums .prev) (ev i) (ed i) (es i) (ex i) (ee i))
       ∙ (λ i. record {
         voices =
             (set-swap (r .voices) j n (w (getD (r .voices) j noVoice)) (x .voice) back
             ∙ ap (λ (v : Voice). set (set (r .voices) n (x .voice)) j (w v)) (sym (getD-set-other (r .voices) n j (x .voice) noVoice back))) i;
         delays =
-            (set-swap (r .delays) j n (delayOf (on j) (getD (r .delays) j 0)) (x .delay) back
-            ∙ ap (λ (v : ℕ). set (set (r .delays) n (x .delay)) j (delayOf (on j) v)) (sym (getD-set-other (r .delays) n j (x .delay) 0 back))) i;
+            (set-swap (r .delays) j n (polledDelay (on j) (getD (r .delays) j 0)) (x .delay) back
+            ∙ ap (λ (v : ℕ). set (set (r .delays) n (x .delay)) j (polledDelay (on j) v)) (sym (getD-set-other (r .delays) n j (x .delay) 0 back))) i;
         bytes = put-past (on j) n j (x .envx) (x .out) (x .endx) b l m far (h .bytes) (h .endx) i;
-        acc = step n r .acc;
+        sums = step n r .sums;
         row = step n r .row;
       })
 
@@ -340,13 +340,13 @@ dir-kept koff kon dir p =
     8 p (omega arith) refl
 
 pub poll-first : PollFirst
-unfolding tickOf voicesTick globTick sharedFrom turns
+unfolding tickOf voicesTick globalsTick sharedFrom turns
 poll-first d ram old v =
     let p = apart d in
-    let c = sharedOf (p .glob) (p .registers) in
+    let c = sharedOf (p .globals) (p .registers) in
     let h : Sized c ram (startOf p) = record { voices = v .voices; delays = v .delays; bytes = v .registers; endx = v .bytes 0x7C } in
     let q = polledParts p in
     let seen : ℕ → Shared = (λ dir. record { koff = 0; kon = 0; «dir_base» = c .«dir_base»; dir = dir; non = c .non; pmon = c .pmon; eon = c .eon; noise = c .noise }) in
     let e = dir-kept (c .koff) (c .kon) (c .«dir_base») (record { voices = p .voices; delays = p .delays; registers = p .registers }) in
     tick-whole old [] p ram
-    ∙ ap (echoBehind p ram (globTick (p .glob))) (sym (polls-first c ram (startOf p) h) ∙ (λ i. turns (turn 0xFF [] (seen (sym e i)) ram) 8 (startOf q)))
+    ∙ ap (echoBehind p ram (globalsTick (p .globals))) (sym (polls-first c ram (startOf p) h) ∙ (λ i. turns (turn 0xFF [] (seen (sym e i)) ram) 8 (startOf q)))

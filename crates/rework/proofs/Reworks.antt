@@ -11,7 +11,8 @@ use Rattle.numbers.specs.Bytes.{copied}
 use Rattle.numbers.specs.Choice.{if_then_else_, _=?_}
 use Rattle.numbers.proofs.Choice.{tested}
 use Rattle.numbers.proofs.Parts.{copied-whole}
-use Rattle.dsp.specs.Machine.{newDsp, apart, together}
+use Rattle.dsp.specs.Machine.{apart, together}
+use Rattle.dsp.specs.PowerOn.{newDsp}
 use Rattle.dsp.specs.declared.registers.Dsp.{Dsp}
 use Rattle.sitting.specs.Run.{Outcome, runWith, runOf}
 use Rattle.rework.specs.Members.{voicesIn}

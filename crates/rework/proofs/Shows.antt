@@ -11,14 +11,13 @@ use lib.Seq.{getD-set-same, getD-set-other}
 use Rattle.numbers.specs.Signed.{highZ}
 use Rattle.numbers.specs.Bits.{bit, withBit}
 use Rattle.numbers.proofs.Bits.{bit-here, bit-there}
+use Rattle.numbers.specs.Listed.{turns}
 use Rattle.dsp.specs.Machine.{noVoice, apart}
 use Rattle.dsp.specs.Mix.{outputOf}
-use Rattle.dsp.specs.Registers.{turns}
 use Rattle.dsp.specs.Sheet.{laneBytes, pairBytes}
 use Rattle.dsp.specs.Echo.{echoTick, echoMoved, echoLane}
-use Rattle.dsp.specs.Lane.{putBytes, cellAfter, cellOf, ownCell, turned}
+use Rattle.dsp.specs.Lane.{putBytes, cellAfter, cellOf, ownCell, turned, Shared}
 use Rattle.dsp.specs.Tick.{Round, turn, voicesTick, everything, startOf, sharedOf, tickOf}
-use Rattle.dsp.specs.declared.lane.Shared.{Shared}
 use Rattle.dsp.specs.declared.voice.Voice.{Voice}
 use Rattle.dsp.proofs.Whole.{full}
 use Rattle.rework.specs.Shown.{lanesOf, RowShows}
@@ -78,7 +77,7 @@ record Lanes (n : ℕ) (r : Round) : Type 0 where
 lanes-turn : (old : List ℕ) (c : Shared) (ram : List ℕ) (n : ℕ) (r : Round) → n < 8 → Lanes n r → Lanes (suc n) (turn 0xFF old c ram n r)
 unfolding turn turned ownCell cellOf cellAfter lanesOf
 lanes-turn old c ram n r l h =
-    let x = ownCell c ram n (r .acc .prev) (getD (r .voices) n noVoice) (getD (r .delays) n 0) (r .bytes) in
+    let x = ownCell c ram n (r .sums .prev) (getD (r .voices) n noVoice) (getD (r .delays) n 0) (r .bytes) in
     let b = r .bytes in
     let v = getD-set-same (r .voices) n (x .voice) noVoice (omega (arith, l, h .voices)) in
     let e = put-envx n (x .envx) (x .out) (x .endx) b l (h .registers) in
@@ -100,7 +99,7 @@ pub row-shows : RowShows
 unfolding tickOf voicesTick lanesOf echoLane echoTick echoMoved
 row-shows d ram old v =
     let p = apart d in
-    let c = sharedOf (p .glob) (p .registers) in
+    let c = sharedOf (p .globals) (p .registers) in
     let h = lanes-after old c ram 8 (startOf p) (omega arith) (record { registers = v .registers; voices = v .voices; row = refl }) in
-    let g = tickOf everything old p ram .parts .glob in
+    let g = tickOf everything old p ram .parts .globals in
     ap (λ (xs : List ℕ). xs ++ pairBytes (g .«echo_out_l») (g .«echo_out_r»)) (h .row)

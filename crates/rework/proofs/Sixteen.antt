@@ -17,19 +17,16 @@ use Rattle.numbers.proofs.Cut.{cutZ-any}
 use Rattle.numbers.proofs.Clamp.{clamp-within}
 use Rattle.numbers.specs.Bits.{bit}
 use Rattle.sound.specs.Sound.{to16, even, joined, levelledZ, firTap, firSum, firOf}
+use Rattle.dsp.specs.Noise.{noiseSample, Noise}
+use Rattle.dsp.specs.With.{withEnvelope}
 use Rattle.dsp.specs.Envelope.{isOff, envelopeTick}
+use Rattle.dsp.specs.Keys.{keyedOff, keyedOn, polledDelay}
+use Rattle.dsp.specs.Interpolation.{tapZ}
+use Rattle.dsp.specs.Voice.{Sounding, Stepped, advanced, resolved, interpolated, idle, shown, sounded, voiceStep, PitchSource}
 use Rattle.dsp.specs.Mix.{scaledOutput}
-use Rattle.dsp.specs.Gauss.{tapZ}
-use Rattle.dsp.specs.Noise.{noiseSample}
-use Rattle.dsp.specs.Voice.{Sounding, Stepped, advanced, resolved, withEnvelope, interpolated, idle, shown, sounded, voiceStep}
-use Rattle.dsp.specs.Lane.{Cell, Waiting, keyedOff, keyedOn, delayOf, waited, noised, polledOf, waitedOf, cellAfter, cellOf, ownCell, shownCell}
+use Rattle.dsp.specs.Lane.{Cell, Waiting, waited, noised, polledOf, waitedOf, cellAfter, cellOf, ownCell, shownCell, Shared}
 use Rattle.dsp.specs.declared.adsr.EnvelopePhase.{EnvelopePhase}
-use Rattle.dsp.specs.declared.adsr.Settings.{Settings}
-use Rattle.dsp.specs.declared.noise.Noise.{Noise}
 use Rattle.dsp.specs.declared.voice.Voice.{Voice}
-use Rattle.dsp.specs.declared.play.Source.{Source}
-use Rattle.dsp.specs.declared.play.Play.{Play}
-use Rattle.dsp.specs.declared.lane.Shared.{Shared}
 use Rattle.dsp.proofs.Outputs.{level-law}
 
 abbrev pub Is16 : ℤ → Type 0
@@ -120,13 +117,13 @@ interpolated16 p =
     clamped16 (to16 (tapZ (255 - i) (getD h 0 (pos 0)) +ℤ tapZ (511 - i) (getD h 1 (pos 0)) +ℤ tapZ (i + 256) (getD h 2 (pos 0))) +ℤ tapZ i (getD h 3 (pos 0)))
 
 -- an idle voice keeps its sample, any other's is interpolated
-sounded16 : (ram : List ℕ) (dir srcn pitch : ℕ) (x : Source) (envx : ℕ) (s : Sounding) → Sample16 (s .play) → Sample16 (sounded ram dir srcn pitch x envx s .play)
+sounded16 : (ram : List ℕ) (dir srcn pitch : ℕ) (x : PitchSource) (envx : ℕ) (s : Sounding) → Sample16 (s .play) → Sample16 (sounded ram dir srcn pitch x envx s .play)
 unfolding sounded
 sounded16 ram dir srcn pitch x envx s h =
     let t = advanced ram dir srcn pitch x (resolved ram s) in
     chosen (λ (t : Stepped). Sample16 (t .play)) (idle (s .play)) {x = record { play = s .play; samples = s .samples; envx = envx }} {y = shown t} h (interpolated16 (t .play))
 
-step16 : (ram : List ℕ) (dir srcn : ℕ) (f : Settings) (pitch : ℕ) (x : Source) (envx : ℕ) (s : Sounding) → Sample16 (s .play) → Sample16 (voiceStep ram dir srcn f pitch x envx s .play)
+step16 : (ram : List ℕ) (dir srcn : ℕ) (f : Settings) (pitch : ℕ) (x : PitchSource) (envx : ℕ) (s : Sounding) → Sample16 (s .play) → Sample16 (voiceStep ram dir srcn f pitch x envx s .play)
 unfolding voiceStep
 step16 ram dir srcn f pitch x envx s h = sounded16 ram dir srcn pitch x envx (record { play = withEnvelope (s .play) (envelopeTick f (s .play .envelope)); samples = s .samples }) h
 
@@ -135,7 +132,7 @@ waited16 : (c : Shared) (ram : List ℕ) (j : ℕ) (prev : ℤ) (v : Voice) (del
 unfolding waitedOf waited
 waited16 c ram j prev v delay srcn envx endx samples h =
     let p = polled16 c j v endx h in
-    chosen (λ (w : Waiting). Sample16 (w .play)) (delayOf (bit (c .kon) j) delay =? 0) (step16 ram (c .dir) srcn _ (v .pitch) _ envx _ p) p
+    chosen (λ (w : Waiting). Sample16 (w .play)) (polledDelay (bit (c .kon) j) delay =? 0) (step16 ram (c .dir) srcn _ (v .pitch) _ envx _ p) p
 
 -- the sample that a tick leaves: worked, or shown from the sheet
 pub sample16 : (worked : Bool) (c : Shared) (ram : List ℕ) (j : ℕ) (prev : ℤ) (v : Voice) (delay : ℕ) (bytes slot : List ℕ) → Is16 (c .noise) → Is16 (v .«current_sample»)

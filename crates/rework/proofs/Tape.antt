@@ -8,12 +8,12 @@ use lib.ListN.{getD, drop, length}
 use Rattle.numbers.specs.Choice.{if_then_else_}
 use Rattle.numbers.proofs.Choice.{chosen}
 use Rattle.numbers.specs.Bits.{bit}
-use Rattle.dsp.specs.Machine.{noVoice, Parts}
+use Rattle.dsp.specs.Machine.{noVoice, Parts, Globals}
+use Rattle.dsp.specs.With.{withEcho}
 use Rattle.dsp.specs.Registers.{writeParts}
 use Rattle.dsp.specs.Sheet.{laneAt}
-use Rattle.dsp.specs.Echo.{withEcho, EchoLane, echoMoved, echoTick, echoFrom, echoLane}
-use Rattle.dsp.specs.Tick.{Ticked, globTick, tickOf}
-use Rattle.dsp.specs.declared.registers.Glob.{Glob}
+use Rattle.dsp.specs.Echo.{EchoLane, echoMoved, echoTick, echoFrom, echoLane}
+use Rattle.dsp.specs.Tick.{Ticked, globalsTick, tickOf}
 use Rattle.dsp.specs.declared.tick.Work.{Work}
 use Rattle.log.specs.declared.Record.{Record}
 use Rattle.log.specs.declared.Record.the-variants.{Write, Ticks, Reading}
@@ -55,7 +55,7 @@ keep s (put i x ∷ bs) =
 keep s (tick ∷ bs) = tick ∷ keep s bs
 keep s (ask r ∷ bs) = ask r ∷ keep s bs
 
-abbrev pub modesIn : Glob → Modes
+abbrev pub modesIn : Globals → Modes
 modesIn g = record { flg = g .flg; pmon = g .pmon }
 
 -- FLG bit 5 is set at every tick
@@ -96,9 +96,9 @@ tape w (tick ∷ bs) old p ram =
 tape w (ask r ∷ bs) old p ram = behindReading (getD (p .registers) r 0) (tape w bs old p ram)
 
 -- a tick changes neither of the two fields that decide
-pub modes-tick : (w : Work) (old : List ℕ) (p : Parts) (ram : List ℕ) → modesIn (tickOf w old p ram .parts .glob) ≡ modesIn (p .glob)
-unfolding tickOf echoLane echoTick echoMoved echoFrom globTick
-modes-tick w old p ram = chosen (λ (e : EchoLane). modesIn (e .echo .glob) ≡ modesIn (p .glob)) (w .echo) refl refl
+pub modes-tick : (w : Work) (old : List ℕ) (p : Parts) (ram : List ℕ) → modesIn (tickOf w old p ram .parts .globals) ≡ modesIn (p .globals)
+unfolding tickOf echoLane echoTick echoMoved echoFrom globalsTick
+modes-tick w old p ram = chosen (λ (e : EchoLane). modesIn (e .echo .globals) ≡ modesIn (p .globals)) (w .echo) refl refl
 
 -- ---- a run and the run of its log without the named voices' own writes
 
@@ -119,7 +119,7 @@ pub record Kept (a : ℕ) (ram : List ℕ) (x y : Tape) : Type 0 where
 -- ---- a rework and the run of the same log
 
 -- the numbers without the echo's, which a rework does not work
-abbrev pub bare : Glob → Glob
+abbrev pub bare : Globals → Globals
 bare g = withEcho g 0 0 (pos 0) (pos 0)
 
 pub record Sim (a : ℕ) (p q : Parts) : Type 0 where
@@ -130,7 +130,7 @@ pub record Sim (a : ℕ) (p q : Parts) : Type 0 where
   pub lefts : (j : ℕ) → j < 8 → getD (p .voices) j noVoice .«left_vol» ≡ getD (q .voices) j noVoice .«left_vol»
   pub rights : (j : ℕ) → j < 8 → getD (p .voices) j noVoice .«right_vol» ≡ getD (q .voices) j noVoice .«right_vol»
   pub delays : (j : ℕ) → j < 8 → bit a j ≡ true → getD (p .delays) j 0 ≡ getD (q .delays) j 0
-  pub glob : bare (p .glob) ≡ bare (q .glob)
+  pub globals : bare (p .globals) ≡ bare (q .globals)
 
 -- an old sheet that agrees with rows outside the set
 pub data Over (a : ℕ) : List ℕ → List (List ℕ) → Type 0 where

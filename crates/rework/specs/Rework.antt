@@ -7,7 +7,8 @@ use lib.ListN.{getD, length}
 use Rattle.numbers.specs.Choice.{if_then_else_, _<?_, _=?_}
 use Rattle.numbers.specs.Bits.{bit}
 use Rattle.numbers.specs.Listed.{listed}
-use Rattle.dsp.specs.Machine.{noVoice, newDsp, Parts, apart, together}
+use Rattle.dsp.specs.Machine.{noVoice, Parts, apart, together}
+use Rattle.dsp.specs.PowerOn.{newDsp}
 use Rattle.dsp.specs.Fit.{fit}
 use Rattle.dsp.specs.declared.registers.Dsp.{Dsp}
 use Rattle.dsp.specs.declared.tick.Work.{Work}
@@ -46,7 +47,7 @@ endOf a new old =
       taps = old .taps;
       left = old .left;
       right = old .right;
-      glob = old .glob;
+      globals = old .globals;
     }
 
 -- ---- the refusals but for 10, which is the run's own

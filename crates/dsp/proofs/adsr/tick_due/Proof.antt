@@ -2,7 +2,6 @@
 use borrow.Author.Needs.{needs}
 use borrow.Author.Tests.{le-leb, lt-leb, eq-eqb, ne-eqb}
 use Rattle.sound.specs.Clock.{periods, periodOf}
-use Rattle.dsp.specs.Clock.{tickDue}
 use Rattle.dsp.proofs.adsr.tick_due.Statement.{statement}
 use Rattle.dsp.proofs.adsr.tick_due.Tie as tie
 

@@ -2,7 +2,8 @@
 use borrow.Author.Needs.{needs}
 use native.Mathlib.Nat.{mod-eq-of-lt}
 use mathlib.Core.Path.{_∙_}
-use Rattle.dsp.specs.Lane.{keyedOff, keyedOn, polledOf}
+use Rattle.dsp.specs.Keys.{keyedOff, keyedOn}
+use Rattle.dsp.specs.Lane.{polledOf}
 use Rattle.dsp.proofs.lane.polled.Statement.{statement}
 use Rattle.dsp.proofs.lane.polled.Tie as tie
 

@@ -4,7 +4,8 @@ use native.Mathlib.Nat.{mod-eq-of-lt}
 use mathlib.Core.Path.{_∙_, ap}
 use mir.Syntax.{w16}
 use mir.ValLaws.{toZ-ofZ}
-use Rattle.dsp.specs.Lane.{sourceOf, delayOf, waited, waitedOf}
+use Rattle.dsp.specs.Keys.{polledDelay}
+use Rattle.dsp.specs.Lane.{sourceOf, waited, waitedOf}
 use Rattle.dsp.proofs.Lanes.{settings-fit, polled-fit}
 use Rattle.dsp.proofs.lane.stepped.Statement.{statement}
 use Rattle.dsp.proofs.lane.stepped.Tie as tie

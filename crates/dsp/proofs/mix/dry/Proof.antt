@@ -6,8 +6,8 @@ use native.Mathlib.Omega.{arith}
 use native.Mathlib.Numerals.{add-one}
 use mir.Syntax.{w16}
 use Rattle.numbers.proofs.Range.{landed}
-use Rattle.dsp.specs.Registers.{turns}
-use Rattle.dsp.specs.Mix.{dryTurn, dryOf}
+use Rattle.numbers.specs.Listed.{turns}
+use Rattle.dsp.specs.Mix.{dryOf}
 use Rattle.dsp.proofs.mix.dry.Statement.{statement}
 use Rattle.dsp.proofs.mix.dry.Tie as tie
 

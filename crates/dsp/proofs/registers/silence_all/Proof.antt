@@ -4,7 +4,7 @@ use mathlib.Core.Path.{_≡_, refl}
 use Prim.Native.Nat.{_≤_, _-_}
 use native.Mathlib.Numerals.{add-one}
 use native.Mathlib.Omega.{arith}
-use Rattle.dsp.specs.Registers.{turns, silenceVoice, silenceAll}
+use Rattle.numbers.specs.Listed.{turns}
 use Rattle.dsp.proofs.registers.silence_all.Statement.{statement}
 use Rattle.dsp.proofs.registers.silence_all.Tie as tie
 

@@ -1,7 +1,7 @@
 -- The tick's answer, on the power-on record with its voice 0 replaced.
 use borrow.Author.Needs.{needs}
 use mathlib.Core.Path.{ap, _∙_}
-use Rattle.dsp.specs.Tick.{stepOf}
+use Rattle.dsp.specs.Ticks.{stepOf}
 use Rattle.replay.specs.Machine.{withVoice, answerOf, tickOf}
 use Rattle.replay.proofs.machine.tick.Statement.{statement}
 use Rattle.replay.proofs.machine.tick.Tie as tie

@@ -6,7 +6,7 @@ use lib.IntN.{ℤ}
 use mir.Syntax.{w16}
 use Rattle.numbers.specs.Choice.{_=?_}
 use Rattle.numbers.proofs.Range.{landed}
-use Rattle.dsp.specs.Tick.{stepOf}
+use Rattle.dsp.specs.Ticks.{stepOf}
 use Rattle.dsp.specs.declared.registers.Answer.{Answer}
 use Rattle.dsp.specs.declared.voice.Voice.{Voice}
 use Rattle.replay.specs.Records.{i16At, _=ℤ?_}

@@ -3,7 +3,7 @@ use borrow.Author.Needs.{needs}
 use mathlib.Core.Path.{_≡_, _∙_, refl, sym, subst}
 use lib.ListN.{length}
 use native.Mathlib.Omega.{arith}
-use Rattle.dsp.specs.Voice.{Sounding, FitBlock, consume}
+use Rattle.dsp.specs.Voice.{Sounding, consume}
 use Rattle.dsp.proofs.Plays.{nothing-left, stops, goes-on, taken-sized, taken-ready}
 use Rattle.dsp.proofs.play.Play.consume.Statement.{statement}
 use Rattle.dsp.proofs.play.Play.consume.Tie as tie

@@ -1,6 +1,6 @@
 -- By the bit and the phase.
 use borrow.Author.Needs.{needs}
-use Rattle.dsp.specs.Lane.{keyedOff}
+use Rattle.dsp.specs.Keys.{keyedOff}
 use Rattle.dsp.proofs.play.Play.keyed_off.Statement.{statement}
 use Rattle.dsp.proofs.play.Play.keyed_off.Tie as tie
 

@@ -1,6 +1,6 @@
 -- By the bit.
 use borrow.Author.Needs.{needs}
-use Rattle.dsp.specs.Lane.{keyedOn}
+use Rattle.dsp.specs.Keys.{keyedOn}
 use Rattle.dsp.proofs.play.Play.keyed_on.Statement.{statement}
 use Rattle.dsp.proofs.play.Play.keyed_on.Tie as tie
 

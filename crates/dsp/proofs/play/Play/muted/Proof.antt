@@ -1,6 +1,5 @@
 -- Field by field.
 use borrow.Author.Needs.{needs}
-use Rattle.dsp.specs.Voice.{muted}
 use Rattle.dsp.proofs.play.Play.muted.Statement.{statement}
 use Rattle.dsp.proofs.play.Play.muted.Tie as tie
 

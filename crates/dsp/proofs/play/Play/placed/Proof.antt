@@ -1,7 +1,7 @@
 -- By the two flags.
 use borrow.Author.Needs.{needs}
 use mathlib.Core.Path.{_∙_, ap}
-use Rattle.dsp.specs.Voice.{muted, placed}
+use Rattle.dsp.specs.Voice.{placed}
 use Rattle.dsp.proofs.play.Play.placed.Statement.{statement}
 use Rattle.dsp.proofs.play.Play.placed.Tie as tie
 

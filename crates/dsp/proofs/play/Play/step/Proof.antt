@@ -3,9 +3,9 @@ use borrow.Author.Needs.{needs}
 use mathlib.Core.Path.{_≡_, _∙_, sym, ap, subst}
 use Prim.Native.Nat.{_/_, _≤_}
 use lib.ListN.{length}
-use Rattle.dsp.specs.Voice.{Sounding, FitBlock, withEnvelope, resolved, advanced, interpolated, shown, sounded, voiceStep}
+use Rattle.dsp.specs.With.{withEnvelope}
 use Rattle.dsp.specs.Envelope.{envelopeTick}
-use Rattle.dsp.specs.declared.adsr.Envelope.{Envelope}
+use Rattle.dsp.specs.Voice.{Sounding, resolved, advanced, interpolated, shown, sounded, voiceStep}
 use Rattle.dsp.proofs.Plays.{Apt, rests, plays, enveloped-apt, fit-apt, resolved-sized, resolved-ready, resolved-apt, advanced-apt, shown-apt}
 use Rattle.dsp.proofs.play.Play.step.Statement.{statement}
 use Rattle.dsp.proofs.play.Play.step.Tie as tie

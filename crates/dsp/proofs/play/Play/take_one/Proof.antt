@@ -7,7 +7,6 @@ use borrow.Author.Tests.{eq-eqb, ne-eqb}
 use mir.Syntax.{w16}
 use Rattle.numbers.proofs.Range.{landed}
 use Rattle.dsp.specs.Voice.{pushed, takeOne}
-use Rattle.dsp.specs.declared.play.Play.{Play}
 use Rattle.dsp.proofs.play.Play.take_one.Statement.{statement}
 use Rattle.dsp.proofs.play.Play.take_one.Tie as tie
 

@@ -6,7 +6,6 @@ use Prim.Native.Nat.{ℕ}
 use lib.IntN.{ℤ}
 use borrow.Author.Tests.{eq-eqb, ne-eqb}
 use Rattle.dsp.specs.Lane.{Waiting, letStep, waited}
-use Rattle.dsp.specs.declared.play.Play.{Play}
 use Rattle.dsp.proofs.play.Play.waited.Statement.{statement}
 use Rattle.dsp.proofs.play.Play.waited.Tie as tie
 

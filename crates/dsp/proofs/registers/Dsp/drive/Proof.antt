@@ -12,15 +12,13 @@ use mir.Syntax.{w16}
 use borrow.Rule.Slice.PartMut.{midOf, mid-len}
 use Rattle.numbers.proofs.Range.{landed}
 use Rattle.numbers.proofs.Parts.{unwritten, sized, all-written}
-use Rattle.dsp.specs.Machine.{noVoice, Parts, apart}
-use Rattle.dsp.specs.Fit.{FitGlob, Fit}
-use Rattle.dsp.specs.Noise.{FitNoise}
+use Rattle.dsp.specs.Machine.{noVoice, Parts, apart, Globals}
+use Rattle.dsp.specs.Fit.{FitGlobals, Fit}
 use Rattle.dsp.specs.Sheet.{pairBytes}
-use Rattle.dsp.specs.Lane.{turned}
-use Rattle.dsp.specs.Tick.{Bench, frameOf, ticksOf}
+use Rattle.dsp.specs.Lane.{turned, Sums}
+use Rattle.dsp.specs.Tick.{frameOf}
+use Rattle.dsp.specs.Ticks.{Bench, ticksOf}
 use Rattle.dsp.specs.declared.voice.Voice.{Voice}
-use Rattle.dsp.specs.declared.lane.Acc.{Acc}
-use Rattle.dsp.specs.declared.registers.Glob.{Glob}
 use Rattle.dsp.proofs.Ticks.{glob-kept, bench-fit}
 use Rattle.dsp.proofs.Drives.{roundOf, Lanes, lanes-first, lane-on, lanes-sized, benchAt, Driven, tick-on}
 use Rattle.dsp.proofs.registers.Dsp.drive.Statement.{statement}

@@ -4,7 +4,7 @@ use mathlib.Core.Path.{_≡_, _∙_, ap}
 use Prim.Native.Nat.{_≤_, _-_}
 use native.Mathlib.Numerals.{add-one}
 use native.Mathlib.Omega.{arith}
-use Rattle.dsp.specs.Fit.{fitGlob, fitVoices, fit}
+use Rattle.dsp.specs.Fit.{fit}
 use Rattle.dsp.proofs.registers.Dsp.is_fit.Statement.{statement}
 use Rattle.dsp.proofs.registers.Dsp.is_fit.Tie as tie
 

@@ -3,8 +3,8 @@ use borrow.Author.Needs.{needs}
 use mathlib.Core.Path.{_≡_, _∙_, sym, ap}
 use mir.Syntax.{w8}
 use Rattle.numbers.proofs.Range.{landed}
-use Rattle.dsp.specs.Machine.{withGlob}
-use Rattle.dsp.specs.Registers.{globWrite}
+use Rattle.dsp.specs.Registers.{globalsAfter}
+use Rattle.dsp.specs.Inside.{withGlobals}
 use Rattle.dsp.proofs.Writes.{stored, reset, globWritten, voice-write, tap-write, plain-write, reset-write}
 use Rattle.dsp.proofs.registers.Dsp.put.Statement.{statement}
 use Rattle.dsp.proofs.registers.Dsp.put.Tie as tie

@@ -1,6 +1,7 @@
 -- Both outputs, as the callee joins them.
 use borrow.Author.Needs.{needs}
-use Rattle.dsp.specs.Echo.{withEcho, echoFrom}
+use Rattle.dsp.specs.With.{withEcho}
+use Rattle.dsp.specs.Echo.{echoFrom}
 use Rattle.dsp.proofs.registers.Glob.echo_from.Statement.{statement}
 use Rattle.dsp.proofs.registers.Glob.echo_from.Tie as tie
 

@@ -3,7 +3,7 @@ use borrow.Author.Needs.{needs}
 use mathlib.Core.Path.{_∙_}
 use mir.Syntax.{w16}
 use Rattle.numbers.proofs.Range.{landed}
-use Rattle.dsp.specs.Tick.{sharedFrom}
+use Rattle.dsp.specs.Inside.{sharedFrom}
 use Rattle.dsp.proofs.registers.Glob.shared.Statement.{statement}
 use Rattle.dsp.proofs.registers.Glob.shared.Tie as tie
 

@@ -1,7 +1,6 @@
 -- Four stores, each at its address.
 use borrow.Author.Needs.{needs}
 use lib.ListN.{length-set}
-use Rattle.dsp.specs.Echo.{echoStored}
 use Rattle.dsp.proofs.Blocks.{wraps}
 use Rattle.dsp.proofs.registers.Glob.store_echo.Statement.{statement}
 use Rattle.dsp.proofs.registers.Glob.store_echo.Tie as tie

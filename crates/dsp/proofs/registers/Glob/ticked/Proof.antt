@@ -1,6 +1,6 @@
 -- By the phase of the poll.
 use borrow.Author.Needs.{needs}
-use Rattle.dsp.specs.Tick.{globTick}
+use Rattle.dsp.specs.Tick.{globalsTick}
 use Rattle.dsp.proofs.registers.Glob.ticked.Statement.{statement}
 use Rattle.dsp.proofs.registers.Glob.ticked.Tie as tie
 
