@@ -13,13 +13,15 @@ use mir.Val.{toZ, ofZ}
 use Rattle.numbers.specs.Choice.{_≤?_, _=?_}
 use Rattle.numbers.proofs.Range.{landed}
 use Rattle.numbers.proofs.Choice.{chosen}
-use Rattle.sound.specs.Sound.{fedBack, firOf, movedOn}
+use Rattle.numbers.specs.Listed.{movedOn}
+use Rattle.numbers.specs.Signed.{_>>_}
+use Rattle.sound.specs.Sound.{fedBack, firOf}
 use Rattle.dsp.specs.Machine.{Globals}
 use Rattle.dsp.specs.Fit.{FitGlobals}
 use Rattle.dsp.specs.Echo.{echoRead, lengthNow, pointerNext, echoMoved, historyNow, echoNow}
 
 pub pointer-low : (g : Globals) → FitGlobals g → g .«echo_ptr» ≤ 30720
-pointer-low g f = ⊎-elim (λ e. omega arith) (λ l. omega (arith, f .most)) (f .within)
+pointer-low g f = let m = f .1 .1 .1 .1 .1 .0 in ⊎-elim (λ e. omega arith) (λ l. omega arith) (f .1 .1 .1 .1 .1 .1 .1 .0)
 
 -- ---- one side: its history h, its output y and what it feeds back, z, which the machine reads from their bits
 module _ (g : Globals) (ram : List ℕ) (taps : List ℤ) (k : ℕ) (history : List ℤ) (input : ℤ) where
@@ -29,11 +31,11 @@ module _ (g : Globals) (ram : List ℕ) (taps : List ℤ) (k : ℕ) (history : L
     pub fed : toZ w16 (ofZ w16 z) ≡ fedBack input (echoNow g ram k taps history) (g .efb)
 
   pub side-is : (x : ℤ) (h : List ℤ) (y z : ℤ) → mag x < 0x8000 → mag y < 0x8000 → mag z < 0x8000 → mag input < 0x8000 → mag (g .efb) < 0x80
-      → x ≡ echoRead g ram k → h ≡ movedOn history (toZ w16 (ofZ w16 x)) → y ≡ firOf h taps
+      → x ≡ echoRead g ram k → h ≡ movedOn history (toZ w16 (ofZ w16 x) >> 1) → y ≡ firOf h taps
       → z ≡ fedBack (toZ w16 (ofZ w16 input)) (toZ w16 (ofZ w16 y)) (toZ w8 (ofZ w8 (g .efb))) → Side h y z
   unfolding historyNow echoNow
   side-is x h y z hx hy hz hi he ex eh ey ez =
-      let m : h ≡ historyNow g ram k history = eh ∙ ap (movedOn history) (landed w16 hx ∙ ex) in
+      let m : h ≡ historyNow g ram k history = eh ∙ ap (λ (y : ℤ). movedOn history (y >> 1)) (landed w16 hx ∙ ex) in
       let e : toZ w16 (ofZ w16 y) ≡ echoNow g ram k taps history = landed w16 hy ∙ ey ∙ ap (λ (l : List ℤ). firOf l taps) m in
       record {
         moved = m;
@@ -45,15 +47,15 @@ module _ (g : Globals) (ram : List ℕ) (taps : List ℤ) (k : ℕ) (history : L
 
 length-pages : (g : Globals) → FitGlobals g → lengthNow g % 2048 ≡ 0
 unfolding lengthNow
-length-pages g f = chosen (λ (n : ℕ). n % 2048 ≡ 0) (g .«echo_ptr» =? 0) (omega arith) (f .pages)
+length-pages g f = chosen (λ (n : ℕ). n % 2048 ≡ 0) (g .«echo_ptr» =? 0) (omega arith) (f .1 .1 .1 .1 .0)
 
 length-most : (g : Globals) → FitGlobals g → lengthNow g ≤ 30720
 unfolding lengthNow
-length-most g f = chosen (λ (n : ℕ). n ≤ 30720) (g .«echo_ptr» =? 0) (omega (arith, f .delay)) (f .most)
+length-most g f = chosen (λ (n : ℕ). n ≤ 30720) (g .«echo_ptr» =? 0) (omega (arith, f .1 .1 .0)) (f .1 .1 .1 .1 .1 .0)
 
 next-pairs : (g : Globals) → FitGlobals g → pointerNext g % 4 ≡ 0
 unfolding pointerNext
-next-pairs g f = chosen (λ (n : ℕ). n % 4 ≡ 0) (lengthNow g ≤? g .«echo_ptr» + 4) (omega arith) (omega (arith, f .pairs))
+next-pairs g f = chosen (λ (n : ℕ). n % 4 ≡ 0) (lengthNow g ≤? g .«echo_ptr» + 4) (omega arith) (omega (arith, f .1 .1 .1 .1 .1 .1 .0))
 
 next-within : (g : Globals) → (pointerNext g ≡ 0) ⊎ (pointerNext g < lengthNow g)
 unfolding pointerNext
@@ -65,14 +67,4 @@ next-within g =
 
 pub fit-kept-echo : (g : Globals) (l r : ℤ) → FitGlobals g → FitGlobals (echoMoved g l r)
 unfolding echoMoved
-fit-kept-echo g l r f =
-    record {
-      counter = f .counter;
-      lfsr = f .lfsr;
-      delay = f .delay;
-      even = f .even;
-      pages = length-pages g f;
-      most = length-most g f;
-      pairs = next-pairs g f;
-      within = next-within g;
-    }
+fit-kept-echo g l r f = (f .0, (f .1 .0, (f .1 .1 .0, (f .1 .1 .1 .0, (length-pages g f, (length-most g f, (next-pairs g f, (next-within g, tt))))))))

@@ -9,7 +9,6 @@ use lib.IntN.{ℤ, pos, negsuc, negℤ, natAbs, _+ℤ_, _*ℤ_}
 use lib.Signed.{shrZ, nonNeg, mag}
 use mir.Syntax.{w16, w32}
 use mir.Val.{Fits, toZ, ofZ}
-use Rattle.dsp.specs.Voice.{pitchOf, plain, modulatedBy}
 use Rattle.numbers.specs.Signed.{_>>_}
 use Rattle.numbers.proofs.Range.{reads, quotes, q-unsigned, q-elem16}
 
@@ -46,8 +45,3 @@ machine-is b x f h = reads (search (quotes, q-unsigned, q-elem16) depth 20) tt
 
 pub machine-nat : (b : ℕ) (x : ℤ) → Fits w16 b → mag x < 32768 → IsNat (2 * b) (machine b x)
 machine-nat b x f h = let k = pitch-nat b x h in record { n = k .n; is = machine-is b x f h ∙ k .is; le = k .le }
-
--- the modulated pitch is document 01's formula: nothing is lost in ℕ
-pub pitch-is : (b : ℕ) (x : ℤ) → mag x < 32768 → pos (pitchOf b (From x)) ≡ pos b +ℤ (((x >> 5) *ℤ pos b) >> 10)
-unfolding pitchOf
-pitch-is b x h = let k = pitch-nat b x h in rw (k .is)

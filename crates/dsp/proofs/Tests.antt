@@ -46,9 +46,9 @@ _and_ {a} {b} s t =
       holds = λ h. both-true a b (s .holds (h .0)) (t .holds (h .1));
     }
 
-infixl 30 _or_
-pub _or_ : {a b : Bool} {P Q : Type 0} → Decides a P → Decides b Q → Decides (a || b) (P ⊎ Q)
-_or_ {a} {b} s t =
+infixl 30 _otherwise_
+pub _otherwise_ : {a b : Bool} {P Q : Type 0} → Decides a P → Decides b Q → Decides (a || b) (P ⊎ Q)
+_otherwise_ {a} {b} s t =
     record {
       sound = λ h. ⊎-elim (λ e. inl (s .sound e)) (λ e. inr (t .sound e)) (either a b h);
       holds = λ h. ⊎-elim (λ p. rw (s .holds p)) (λ q. or-true a b (t .holds q)) h;

@@ -1,19 +1,20 @@
 -- Laws of register writes, by the kind of register.
-use mathlib.Core.Bool.{Bool, true, false, _&&_, _||_}
-use mathlib.Core.List.{List, [], _∷_}
+use mathlib.Core.Bool.{Bool, true, false, _||_}
+use mathlib.Core.List.{List, [], _∷_, map}
 use mathlib.Core.Path.{_≡_, refl}
 use Prim.Native.Nat.{ℕ, _/_, _%_, _≤_, _<_}
-use native.Mathlib.Decide.{decLe, ℕ-discrete}
+use native.Mathlib.Decide.{ℕ-discrete}
 use native.Mathlib.Omega.{arith}
 use lib.IntN.{ℤ, pos}
 use lib.ListN.{getD, set}
 use lib.Dec.{eqb}
-use borrow.Author.Tests.{lt-ltb, le-ltb, le-leb, lt-leb, eq-eqb, ne-eqb}
-use Rattle.numbers.specs.Choice.{if_then_else_, _≤?_, _=?_}
+use borrow.Author.Tests.{lt-ltb, le-ltb, eq-eqb, ne-eqb}
+use Rattle.numbers.specs.Choice.{_=?_}
 use Rattle.numbers.specs.Signed.{cutZ}
 use Rattle.numbers.proofs.Choice.{chosen}
 use Rattle.dsp.specs.Machine.{noVoice, globalsOf, together, Globals}
-use Rattle.dsp.specs.Registers.{at, writeVoice, globalsAfter, endxWrite, writeParts, writeAt}
+use Rattle.dsp.specs.Keys.{silenced}
+use Rattle.dsp.specs.Registers.{at, writeVoice, resets, globalsAfter, endxWrite, writeParts, writeAt}
 use Rattle.dsp.specs.Inside.{withGlobals}
 use Rattle.dsp.specs.declared.voice.Voice.{Voice}
 use Rattle.dsp.specs.declared.registers.Dsp.{Dsp}
@@ -87,7 +88,7 @@ reset d =
     together
     (record {
       registers = set (d .registers) 0x7C 0;
-      voices = silenceAll (d .voices);
+      voices = map silenced (d .voices);
       delays = d .«kon_delay»;
       taps = d .«fir_coeff»;
       left = d .«fir_history_l»;
@@ -95,26 +96,14 @@ reset d =
       globals = globalsOf d;
     })
 
-abbrev pub globWritten : ℕ → ℕ → Dsp → Dsp
-globWritten i x d = withGlobals d (globalsAfter i x (globalsOf d))
+abbrev pub globalsWritten : ℕ → ℕ → Dsp → Dsp
+globalsWritten i x d = withGlobals d (globalsAfter i x (globalsOf d))
 
-global-write : (i x : ℕ) (d : Dsp) → 8 ≤ i % 16 → (i % 16 ≡ 15 → ⊥)
-    → let e = globWritten i x (stored i x (d .voices) (d .«fir_coeff») d) in writeAt i x d ≡ (if (i =? 0x6C) && (0x80 ≤? x) then reset e else e)
+pub plain-write : (i x : ℕ) (d : Dsp) → 8 ≤ i % 16 → (i % 16 ≡ 15 → ⊥) → resets i x ≡ false → writeAt i x d ≡ globalsWritten i x (stored i x (d .voices) (d .«fir_coeff») d)
 unfolding writeAt writeParts
-global-write i x d v f =
-    elim (ℕ-discrete i 0x6C) [
-      | yes e ↦
-          elim (decLe 0x80 x) [
-            | yes l ↦ rw (le-ltb _ _ v, ne-eqb _ _ f, eq-eqb _ _ e, le-leb _ _ l)
-            | no l ↦ let k : x < 0x80 = omega arith in rw (le-ltb _ _ v, ne-eqb _ _ f, eq-eqb _ _ e, lt-leb _ _ k, endx-as-any)
-          ]
-      | no e ↦ rw (le-ltb _ _ v, ne-eqb _ _ f, ne-eqb _ _ e, endx-as-any)
-    ]
+plain-write i x d v f t = rw (le-ltb _ _ v, ne-eqb _ _ f, t, endx-as-any)
 
-pub plain-write : (i x : ℕ) (d : Dsp) → 8 ≤ i % 16 → (i % 16 ≡ 15 → ⊥) → (i =? 0x6C) && (0x80 ≤? x) ≡ false
-    → writeAt i x d ≡ globWritten i x (stored i x (d .voices) (d .«fir_coeff») d)
-plain-write i x d v f t = rw t at (global-write i x d v f)
-
-pub reset-write : (i x : ℕ) (d : Dsp) → 8 ≤ i % 16 → (i % 16 ≡ 15 → ⊥) → (i =? 0x6C) && (0x80 ≤? x) ≡ true
-    → writeAt i x d ≡ reset (globWritten i x (stored i x (d .voices) (d .«fir_coeff») d))
-reset-write i x d v f t = rw t at (global-write i x d v f)
+pub reset-write : (i x : ℕ) (d : Dsp) → 8 ≤ i % 16 → (i % 16 ≡ 15 → ⊥) → resets i x ≡ true
+    → writeAt i x d ≡ reset (globalsWritten i x (stored i x (d .voices) (d .«fir_coeff») d))
+unfolding writeAt writeParts
+reset-write i x d v f t = rw (le-ltb _ _ v, ne-eqb _ _ f, t)

@@ -68,11 +68,11 @@ sustainTick a = timed (a .«sustain_rate») faded a
 unfoldable pub releaseTick : Adsr → Adsr
 releaseTick a = fallenTo (a .«envelope_level» - 8) a
 
--- with bit 7 clear the level is 16 · value; else a ramp at entry bits 4-0, by bits 6-5. No phase change
+-- with bit 7 clear the level is 16 · value, of bits 6-0; else a ramp at entry bits 4-0, by bits 6-5. No phase change
 unfoldable pub gainTick : Adsr → Adsr
 gainTick a =
     if bit (a .«gain_param») 7 then timed (a .«gain_param» % 32) (ramped (a .«gain_param» / 32 % 4)) a else
-    levelled a (16 * a .«gain_param»)
+    levelled a (16 * (a .«gain_param» % 128))
 
 abbrev pub isOff : EnvelopePhase → Bool
 isOff Attack = false

@@ -52,3 +52,9 @@ listed-take {A} d xs (suc n) l = ap (λ (ys : List A). ys ++ (getD xs n d ∷ []
 pub dropped-listed : {A : Type 0} (d : A) (h : List A) (n : ℕ) → length h ≡ suc n → drop 1 h ≡ listed (λ k. getD h (suc k) d) n
 dropped-listed d [] n e = absurd (omega arith)
 dropped-listed d (x ∷ xs) n e = sym (listed-take d xs n (omega arith) ∙ take-all n xs (omega arith))
+
+-- what each element and what lies past the end have in common, where f keeps it
+pub map-keeps : {A : Type 0} (P : A → Type 0) (f : A → A) (d : A) → P d → ((a : A) → P a → P (f a)) → (xs : List A) → ((n : ℕ) → P (getD xs n d)) → (n : ℕ) → P (getD (map f xs) n d)
+map-keeps P f d p k [] h n = p
+map-keeps P f d p k (x ∷ xs) h zero = k x (h zero)
+map-keeps P f d p k (x ∷ xs) h (suc n) = map-keeps P f d p k xs (λ m. h (suc m)) n
