@@ -133,14 +133,14 @@ fn gains(phase: EnvelopePhase, s: Settings) -> bool
 
 impl Envelope {
     fn counted(mut self, counter: u16) -> Self
-        ensures { λ r. ⌜ (s : Settings) → asAdsr s r ≡ counted (asAdsr s self) counter ⌝ }
+        ensures { λ r. ⌜ ((s : Settings) → asAdsr s r ≡ counted (asAdsr s self) counter) ⌝ }
     {
         self.counter = counter;
         self
     }
 
     fn levelled(mut self, level: u16) -> Self
-        ensures { λ r. ⌜ (s : Settings) → asAdsr s r ≡ levelled (asAdsr s self) level ⌝ }
+        ensures { λ r. ⌜ ((s : Settings) → asAdsr s r ≡ levelled (asAdsr s self) level) ⌝ }
     {
         self.level = level;
         self
@@ -148,7 +148,7 @@ impl Envelope {
 
     fn risen(self, by: u16) -> Self
         requires { ⌜ (self .level ≤ 0x800) × (by ≤ 1024) ⌝ }
-        ensures { λ r. ⌜ (s : Settings) → asAdsr s r ≡ risen by (asAdsr s self) ⌝ }
+        ensures { λ r. ⌜ ((s : Settings) → asAdsr s r ≡ risen by (asAdsr s self)) ⌝ }
     {
         let level = self.level + by;
         if level >= 0x7FF {
@@ -163,7 +163,7 @@ impl Envelope {
     }
 
     fn settled(self, target: u16) -> Self
-        ensures { λ r. ⌜ (s : Settings) → asAdsr s r ≡ settled target (asAdsr s self) ⌝ }
+        ensures { λ r. ⌜ ((s : Settings) → asAdsr s r ≡ settled target (asAdsr s self)) ⌝ }
     {
         let level = sound::lowered(self.level);
         if level <= target {
@@ -178,7 +178,7 @@ impl Envelope {
     }
 
     fn fallen_to(self, level: u16) -> Self
-        ensures { λ r. ⌜ (s : Settings) → asAdsr s r ≡ fallenTo level (asAdsr s self) ⌝ }
+        ensures { λ r. ⌜ ((s : Settings) → asAdsr s r ≡ fallenTo level (asAdsr s self)) ⌝ }
     {
         if level == 0 {
             Envelope {
@@ -232,7 +232,7 @@ impl Envelope {
     }
 
     fn release(self) -> Self
-        ensures { λ r. ⌜ (s : Settings) → asAdsr s r ≡ releaseTick (asAdsr s self) ⌝ }
+        ensures { λ r. ⌜ ((s : Settings) → asAdsr s r ≡ releaseTick (asAdsr s self)) ⌝ }
     {
         self.fallen_to(numbers::saturating_sub(self.level, 8))
     }

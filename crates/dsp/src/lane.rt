@@ -175,7 +175,7 @@ impl Brr {
 impl Play {
     // A polled KOFF bit: release, unless the phase is Off.
     fn keyed_off(mut self, on: bool) -> Self
-        ensures { λ r. ⌜ (v : Voice) (samples : List ℤ) → _≡_ {A = Sounding} (asSounding v r samples) (record { voice = keyedOff on (asVoice v self samples); endx = self .endx }) ⌝ }
+        ensures { λ r. ⌜ ((v : Voice) (samples : List ℤ) → _≡_ {A = Sounding} (asSounding v r samples) (record { voice = keyedOff on (asVoice v self samples); endx = self .endx })) ⌝ }
     {
         let e = self.envelope;
         let phase = e.phase;
@@ -196,7 +196,7 @@ impl Play {
     // A polled KON bit: all playback state starts anew. The address is that of the directory entry until the
     // first step resolves it.
     fn keyed_on(self, on: bool, dir: u8, srcn: u8) -> Self
-        ensures { λ r. ⌜ (v : Voice) (samples : List ℤ) → v .srcn ≡ srcn → _≡_ {A = Sounding} (asSounding v r samples) (record { voice = keyedOn on dir (asVoice v self samples); endx = polledEndx on (self .endx) }) ⌝ }
+        ensures { λ r. ⌜ ((v : Voice) (samples : List ℤ) → v .srcn ≡ srcn → _≡_ {A = Sounding} (asSounding v r samples) (record { voice = keyedOn on dir (asVoice v self samples); endx = polledEndx on (self .endx) })) ⌝ }
     {
         if on {
             let envelope = Envelope {
@@ -225,7 +225,7 @@ impl Play {
 
     // NON replaces the sample after the voice's step.
     fn noised(mut self, on: bool, x: i16) -> Self
-        ensures { λ r. ⌜ (v : Voice) (samples : List ℤ) → _≡_ {A = Sounding} (asSounding v r samples) (record { voice = noised on x (asVoice v self samples); endx = self .endx }) ⌝ }
+        ensures { λ r. ⌜ ((v : Voice) (samples : List ℤ) → _≡_ {A = Sounding} (asSounding v r samples) (record { voice = noised on x (asVoice v self samples); endx = self .endx })) ⌝ }
     {
         if on {
             self.current_sample = x;
@@ -251,7 +251,7 @@ impl Play {
         samples: &mut [i16],
     ) -> Held
         requires { ⌜ (now table ≡ weights) × (now rates ≡ periods) × (length (now ram) ≡ 0x10000) × (length (now samples) ≡ 16) × FitAdsr (asAdsr s (self .envelope)) × FitBrr (asBrr self (now samples)) ⌝ }
-        ensures { λ r. ⌜ (v : Voice) → v .pitch ≡ pitch → settingsOf (v .adsr) ≡ s → _≡_ {A = Waiting} (record { sounding = asSounding v (r .play) (now (samples .exit)); delay = r .delay; envx = r .envx }) (waited (now (ram .entry)) dir srcn (asSource source) envx delay (asSounding v self (now (samples .entry)))) ⌝ }
+        ensures { λ r. ⌜ ((v : Voice) → v .pitch ≡ pitch → settingsOf (v .adsr) ≡ s → _≡_ {A = Waiting} (record { sounding = asSounding v (r .play) (now (samples .exit)); delay = r .delay; envx = r .envx }) (waited (now (ram .entry)) dir srcn (asSource source) envx delay (asSounding v self (now (samples .entry))))) ⌝ }
     {
         if delay == 0 {
             let t = self.step(

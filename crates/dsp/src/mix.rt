@@ -50,7 +50,7 @@ impl Stereo {
 
 // The dry mix is a 16-bit accumulator: it saturates after each voice, so the order of loud voices matters.
 pub(crate) fn dry(voices: [Voice; 8]) -> Stereo
-    requires { ⌜ (n : ℕ) → getD voices n noVoice .adsr .«envelope_level» ≤ 0x800 ⌝ }
+    requires { ⌜ ((n : ℕ) → getD voices n noVoice .adsr .«envelope_level» ≤ 0x800) ⌝ }
     ensures { λ r. ⌜ asStereo r ≡ dryOf voices ⌝ }
 {
     let mut s = Stereo { l: 0, r: 0 };
