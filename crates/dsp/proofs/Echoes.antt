@@ -11,9 +11,11 @@ use lib.Signed.{mag}
 use mir.Syntax.{w8, w16}
 use mir.Val.{toZ, ofZ}
 use Rattle.numbers.specs.Choice.{_≤?_, _=?_}
+use Rattle.numbers.specs.Listed.{movedOn}
+use Rattle.numbers.specs.Signed.{_>>_}
 use Rattle.numbers.proofs.Range.{landed}
 use Rattle.numbers.proofs.Choice.{chosen}
-use Rattle.sound.specs.Sound.{fedBack, firOf, movedOn}
+use Rattle.sound.specs.Sound.{fedBack, firOf}
 use Rattle.dsp.specs.Echo.{echoRead, lengthNow, pointerNext, echoMoved, historyNow, echoNow}
 use Rattle.dsp.specs.Fit.{FitGlob}
 use Rattle.dsp.specs.declared.registers.Glob.{Glob}
@@ -29,11 +31,11 @@ module _ (g : Glob) (ram : List ℕ) (taps : List ℤ) (k : ℕ) (history : List
     pub fed : toZ w16 (ofZ w16 z) ≡ fedBack input (echoNow g ram k taps history) (g .efb)
 
   pub side-is : (x : ℤ) (h : List ℤ) (y z : ℤ) → mag x < 0x8000 → mag y < 0x8000 → mag z < 0x8000 → mag input < 0x8000 → mag (g .efb) < 0x80
-      → x ≡ echoRead g ram k → h ≡ movedOn history (toZ w16 (ofZ w16 x)) → y ≡ firOf h taps
+      → x ≡ echoRead g ram k → h ≡ movedOn history (toZ w16 (ofZ w16 x) >> 1) → y ≡ firOf h taps
       → z ≡ fedBack (toZ w16 (ofZ w16 input)) (toZ w16 (ofZ w16 y)) (toZ w8 (ofZ w8 (g .efb))) → Side h y z
   unfolding historyNow echoNow
   side-is x h y z hx hy hz hi he ex eh ey ez =
-      let m : h ≡ historyNow g ram k history = eh ∙ ap (movedOn history) (landed w16 hx ∙ ex) in
+      let m : h ≡ historyNow g ram k history = eh ∙ ap (λ (y : ℤ). movedOn history (y >> 1)) (landed w16 hx ∙ ex) in
       let e : toZ w16 (ofZ w16 y) ≡ echoNow g ram k taps history = landed w16 hy ∙ ey ∙ ap (λ (l : List ℤ). firOf l taps) m in
       record {
         moved = m;

@@ -5,10 +5,11 @@ use Prim.Native.Nat.{ℕ, _+_, _*_}
 use lib.IntN.{ℤ}
 use lib.ListN.{getD, set}
 use Rattle.numbers.specs.Choice.{if_then_else_, _≤?_, _=?_}
-use Rattle.numbers.specs.Signed.{lowZ, highZ}
+use Rattle.numbers.specs.Listed.{movedOn}
+use Rattle.numbers.specs.Signed.{_>>_, lowZ, highZ}
 use Rattle.numbers.specs.Unsigned.{wrapped}
 use Rattle.numbers.specs.Bits.{bit}
-use Rattle.sound.specs.Sound.{joined, fedBack, firOf, movedOn}
+use Rattle.sound.specs.Sound.{joined, fedBack, firOf}
 use Rattle.dsp.specs.Brr.{byteAt}
 use Rattle.dsp.specs.Sheet.{pairBytes}
 use Rattle.dsp.specs.declared.mix.Stereo.{Stereo}
@@ -74,9 +75,9 @@ withEcho g ptr len l r =
 unfoldable pub echoMoved : Glob → ℤ → ℤ → Glob
 echoMoved g l r = withEcho g (pointerNext g) (lengthNow g) l r
 
--- one side: its history moved on by what is read at byte k, and what the filter makes of it
+-- one side: its history moved on by what is read at byte k, which is kept >> 1, and what the filter makes of it
 unfoldable pub historyNow : Glob → List ℕ → ℕ → List ℤ → List ℤ
-historyNow g ram k history = movedOn history (echoRead g ram k)
+historyNow g ram k history = movedOn history (echoRead g ram k >> 1)
 
 unfoldable pub echoNow : Glob → List ℕ → ℕ → List ℤ → List ℤ → ℤ
 echoNow g ram k taps history = firOf (historyNow g ram k history) taps
