@@ -1,3 +1,5 @@
+pub mod Rules
+pub mod Clocks
 pub mod Blocks
 pub mod Envelopes
 pub mod Pitch
