@@ -1,8 +1,7 @@
 -- Field by field.
 use borrow.Author.Needs.{needs}
-use mathlib.Core.Path.{refl}
 use Rattle.dsp.proofs.play.Play.filled.Statement.{statement}
 use Rattle.dsp.proofs.play.Play.filled.Tie as tie
 
 pub filled-spec : {M : Type 1} → statement M
-filled-spec = tie.close (tie.spec (λ c. λ v old new. refl))
+filled-spec = tie.close (tie.spec (λ c. λ v old new. search needs))

@@ -6,7 +6,7 @@ use Rattle.dsp.proofs.play.Play.noised.Tie as tie
 
 returns : tie.Need-returns
 unfolding noised
-returns c v samples = rw (c .if1 .taken)
+returns c v samples = rw (c .if1 .taken) (search needs)
 
 returns-2 : tie.Need-returns-2
 unfolding noised

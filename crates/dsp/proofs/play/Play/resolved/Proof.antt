@@ -1,6 +1,7 @@
 -- By the fill.
 use borrow.Author.Needs.{needs}
-use mathlib.Core.Path.{_∙_, ap}
+use mathlib.Core.Path.{_≡_, _∙_, ap}
+use Prim.Native.Nat.{_+_}
 use native.Mathlib.Omega.{arith}
 use borrow.Author.Tests.{eq-eqb, ne-eqb}
 use Rattle.dsp.specs.Brr.{wordAt}
@@ -13,7 +14,8 @@ returns : tie.Need-returns
 unfolding resolved
 returns c v =
     let a = c .before .before .before .before .before .before .before .args in
-    let n = c .before .before .before .read-le16 .ensures ∙ ap (wordAt (a .ram .now)) (omega arith) in
+    let z : a .self .addr + 0 ≡ a .self .addr = omega arith in
+    let n = c .before .before .before .read-le16 .ensures ∙ ap (wordAt (a .ram .now)) z in
     rw (eq-eqb _ _ (c .before .before .before .before .if1 .taken)) (c .before .decoded-at .ensures v ∙ (λ i. decodedAt (a .ram .now) (n i) (asSounding v (a .self) (a .samples .now))))
 
 returns-2 : tie.Need-returns-2
