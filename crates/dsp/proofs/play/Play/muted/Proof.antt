@@ -3,9 +3,5 @@ use borrow.Author.Needs.{needs}
 use Rattle.dsp.proofs.play.Play.muted.Statement.{statement}
 use Rattle.dsp.proofs.play.Play.muted.Tie as tie
 
-returns : tie.Need-returns
-unfolding muted
-returns c = search needs
-
 pub muted-spec : {M : Type 1} → statement M
-muted-spec = tie.close (tie.spec returns)
+muted-spec = tie.close (tie.spec (λ c. λ v samples. search needs))
