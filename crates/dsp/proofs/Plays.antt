@@ -14,7 +14,7 @@ use Rattle.numbers.proofs.Choice.{tested, chosen, least-le}
 use Rattle.dsp.specs.With.{withEnvelope, withPosition}
 use Rattle.dsp.specs.Fit.{FitAdsr, FitBrr, FitVoice}
 use Rattle.dsp.specs.Envelope.{envelopeTick}
-use Rattle.dsp.specs.Brr.{wordAt, Decoded, decodeBlock}
+use Rattle.dsp.specs.Brr.{wordAt, DecodedBlock, decodeBlock}
 use Rattle.dsp.specs.Voice.{Sounding, PitchSource, pitchOf, positionOf, samplesTaken, blockOf, filled, placed, decodedAt, nextAddress, nextBlock, resolved, pushed, pushedNext, lastOf, takeOne, consume, idle, advanced, interpolated, Stepped, shown, sounded, voiceStep}
 use Rattle.dsp.specs.declared.voice.Voice.{Voice}
 use Rattle.dsp.proofs.Fits.{voice-fit, adsr-fit, brr-fit, silenced-fit}
@@ -45,7 +45,7 @@ pub record Ready (s : Sounding) : Type 0 where
   pub sized : length (s .voice .brr .«sample_buffer») ≡ 16
   pub block : FitBrr (s .voice .brr)
 
-placed-block : (a : ℕ) (d : Decoded) (v : Voice) → placed a d v .brr ≡ blockOf a d
+placed-block : (a : ℕ) (d : DecodedBlock) (v : Voice) → placed a d v .brr ≡ blockOf a d
 unfolding placed
 placed-block a d v = chosen (λ (w : Voice). w .brr ≡ blockOf a d) (d .end && not (d .loops)) refl refl
 

@@ -62,7 +62,7 @@ newest ram a p1 p2 (suc k) =
       prev2 = newest ram a p1 p2 k .prev1;
     }
 
-pub record Decoded : Type 0 where
+pub record DecodedBlock : Type 0 where
   pub samples : List ℤ
   pub prev1 : ℤ
   pub prev2 : ℤ
@@ -70,7 +70,7 @@ pub record Decoded : Type 0 where
   pub loops : Bool
 
 -- sample k is the newest one after nibble k
-unfoldable pub decodeBlock : List ℕ → ℕ → ℤ → ℤ → Decoded
+unfoldable pub decodeBlock : List ℕ → ℕ → ℤ → ℤ → DecodedBlock
 decodeBlock ram a p1 p2 =
     record {
       samples = listed (λ k. newest ram a p1 p2 (suc k) .prev1) 16;

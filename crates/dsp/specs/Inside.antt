@@ -8,7 +8,7 @@ use Rattle.numbers.specs.Choice.{if_then_else_}
 use Rattle.dsp.specs.Noise.{Noise, noiseSample}
 use Rattle.dsp.specs.Machine.{Globals, together}
 use Rattle.dsp.specs.With.{moved}
-use Rattle.dsp.specs.Brr.{Decoded}
+use Rattle.dsp.specs.Brr.{DecodedBlock}
 use Rattle.dsp.specs.Voice.{Sounding, PitchSource, plain, modulatedBy}
 use Rattle.dsp.specs.Mix.{Stereo}
 use Rattle.dsp.specs.Lane.{Shared, Cell, Sums}
@@ -76,7 +76,7 @@ asVoice v p samples = moved v (p .«key_on») (p .«pitch_counter») (p .«curre
 abbrev pub asSounding : Voice → Play → List ℤ → Sounding
 asSounding v p samples = record { voice = asVoice v p samples; endx = p .endx }
 
-abbrev pub asDecoded : Block → List ℤ → Decoded
+abbrev pub asDecoded : Block → List ℤ → DecodedBlock
 asDecoded b samples = record { samples = samples; prev1 = b .prev1; prev2 = b .prev2; end = b .end; loops = b .loops }
 
 abbrev pub asSource : Source → PitchSource

@@ -9,7 +9,7 @@ use Rattle.numbers.specs.Listed.{movedOn}
 use Rattle.numbers.specs.Signed.{natural, _>>_}
 use Rattle.numbers.specs.Unsigned.{wrapped, least}
 use Rattle.dsp.specs.With.{withEnvelope, withPosition, withSample, withBrr, withNibble}
-use Rattle.dsp.specs.Brr.{wordAt, entryOf, Decoded, decodeBlock}
+use Rattle.dsp.specs.Brr.{wordAt, entryOf, DecodedBlock, decodeBlock}
 use Rattle.dsp.specs.Interpolation.{interpolateZ}
 use Rattle.dsp.specs.Envelope.{isOff, envelopeTick}
 use Rattle.dsp.specs.Keys.{silenced}
@@ -44,7 +44,7 @@ samplesTaken x v = positionOf x v / 0x1000 - v .«pitch_counter» % 0x4000 / 0x1
 -- ---- blocks
 
 -- the block at a lies in the buffer, which is full
-abbrev pub blockOf : ℕ → Decoded → Brr
+abbrev pub blockOf : ℕ → DecodedBlock → Brr
 blockOf a d =
     record {
       addr = a;
@@ -56,17 +56,17 @@ blockOf a d =
       «buffer_fill» = 16;
     }
 
-abbrev pub filled : ℕ → Decoded → Voice → Voice
+abbrev pub filled : ℕ → DecodedBlock → Voice → Voice
 filled a d v = withBrr v (v .history) (blockOf a d)
 
 -- an end block without loop: level 0, Off, key_on clear
-unfoldable pub placed : ℕ → Decoded → Voice → Voice
+unfoldable pub placed : ℕ → DecodedBlock → Voice → Voice
 placed a d v =
     if d .end && not (d .loops) then silenced (filled a d v) else
     filled a d v
 
 -- an end block sets ENDX
-abbrev pub withBlock : ℕ → Sounding → Decoded → Sounding
+abbrev pub withBlock : ℕ → Sounding → DecodedBlock → Sounding
 withBlock a s d = record { voice = placed a d (s .voice); endx = s .endx || d .end }
 
 unfoldable pub decodedAt : List ℕ → ℕ → Sounding → Sounding

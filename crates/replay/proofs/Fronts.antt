@@ -10,7 +10,7 @@ use lib.ListN.{length, take, drop, length-take}
 use borrow.Author.Count.{below-more}
 use Rattle.dsp.specs.Noise.{Noise}
 use Rattle.replay.specs.Noise.{Check}
-use Rattle.replay.specs.Leaves.{sizeOf, checkOf}
+use Rattle.replay.specs.Leaves.{recordSize, checkOf}
 use Rattle.replay.specs.Parts.{handedTo, checkAt, IsFront}
 use Rattle.replay.specs.declared.leaves.Leaf.{Leaf}
 
@@ -35,7 +35,7 @@ module _ (leaf : Leaf) (part : List ℕ) (carry : Noise) where
   unfolding handedTo
   none = record { before = λ j l. absurd (omega arith); handed = refl }
 
-  module _ (k : ℕ) (h : Noise) (n : ℕ) (r : Check) (e : n ≡ sizeOf leaf) (u : UpTo k h)
+  module _ (k : ℕ) (h : Noise) (n : ℕ) (r : Check) (e : n ≡ recordSize leaf) (u : UpTo k h)
       (c : r ≡ checkOf leaf (take (k * n + n - k * n) (drop (k * n) part)) h) where
     is : r ≡ checkAt leaf part carry k
     unfolding checkAt
@@ -58,7 +58,7 @@ module _ (leaf : Leaf) (part : List ℕ) (carry : Noise) where
           handed = u .handed;
         }
 
-  pub ends : (k : ℕ) (h : Noise) (n : ℕ) → n ≡ sizeOf leaf → UpTo k h → k ≤ length part / n → length part / n ≤ k
+  pub ends : (k : ℕ) (h : Noise) (n : ℕ) → n ≡ recordSize leaf → UpTo k h → k ≤ length part / n → length part / n ≤ k
       → IsFront leaf part carry k h
   ends k h n e u l g =
       let d = ap (λ (m : ℕ). length part / m) e in

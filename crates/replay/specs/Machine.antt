@@ -72,11 +72,11 @@ withFirst d v =
       globals = globalsOf d;
     })
 
-abbrev pub answerOf : After → Answer
-answerOf a = record { refusal = a .refusal; dsp = a .dsp }
+abbrev pub asAnswer : After → Answer
+asAnswer a = record { refusal = a .refusal; dsp = a .dsp }
 
 unfoldable pub answered : Voice → List ℕ → Answer
-answered v ram = answerOf (stepOf (withFirst newDsp v) ram)
+answered v ram = asAnswer (stepOf (withFirst newDsp v) ram)
 
 abbrev pub soundOf : Dsp → Voice
 soundOf d = getD (d .voices) 0 noVoice

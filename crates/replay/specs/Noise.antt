@@ -9,8 +9,8 @@ use Rattle.dsp.specs.PowerOn.{newDsp}
 use Rattle.dsp.specs.Ticks.{stepOf}
 use Rattle.dsp.specs.declared.registers.Answer.{Answer}
 use Rattle.dsp.specs.declared.registers.Dsp.{Dsp}
-use Rattle.replay.specs.Records.{byteAt, i16At, _=ℤ?_}
-use Rattle.replay.specs.Machine.{zeros, answerOf, soundOf}
+use Rattle.replay.specs.Records.{u8At, i16At, _=ℤ?_}
+use Rattle.replay.specs.Machine.{zeros, asAnswer, soundOf}
 
 -- whether a record says what the leaf gives, and the noise that it hands on
 pub record Check : Type 0 where
@@ -45,8 +45,8 @@ noisyGlobals flg n g =
       «echo_out_r» = g .«echo_out_r»;
     }
 
-abbrev pub noisy : ℕ → Noise → Dsp → Dsp
-noisy flg n d =
+abbrev pub withNoise : ℕ → Noise → Dsp → Dsp
+withNoise flg n d =
     together
     (record {
       registers = d .registers;
@@ -59,7 +59,7 @@ noisy flg n d =
     })
 
 unfoldable pub noisyAnswer : ℕ → Noise → Answer
-noisyAnswer flg n = answerOf (stepOf (noisy flg n newDsp) zeros)
+noisyAnswer flg n = asAnswer (stepOf (withNoise flg n newDsp) zeros)
 
 -- FLG | sample
 abbrev pub noiseSays : Answer → List ℕ → Check
@@ -70,4 +70,4 @@ noiseSays a r =
     }
 
 unfoldable pub noiseCheck : List ℕ → Noise → Check
-noiseCheck r carry = noiseSays (noisyAnswer (byteAt r 0) carry) r
+noiseCheck r carry = noiseSays (noisyAnswer (u8At r 0) carry) r

@@ -32,8 +32,8 @@ roomIn ticks count pcm sheet readings = roomWithin (roomFor ticks count) (length
 
 -- ---- a run that is lent the first bytes of each slice, as many as its log needs
 
-abbrev pub startOf : Bool → Dsp → Dsp
-startOf ofNew start = if ofNew then newDsp else start
+abbrev pub startFrom : Bool → Dsp → Dsp
+startFrom ofNew start = if ofNew then newDsp else start
 
 -- what stands behind them stays
 abbrev pub withRest : Room → List ℕ → List ℕ → List ℕ → Outcome → Outcome

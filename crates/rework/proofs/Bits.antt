@@ -18,7 +18,7 @@ use Rattle.numbers.proofs.Bits.{digit, digit-half, byte-ext, bit-here, bit-ther
 use Rattle.numbers.specs.Listed.{turns}
 use Rattle.dsp.proofs.Tests.{Decides, _and_}
 use Rattle.numbers.proofs.Turns.{turns-keep}
-use Rattle.rework.specs.Members.{joinAfter, joinedBy, counted, voicesIn}
+use Rattle.rework.specs.Members.{joinAfter, joinedBy, countedIn, voicesIn}
 
 -- ---- digits
 
@@ -162,20 +162,20 @@ joined-twice pmon a h =
 
 -- ---- how many they are
 
-counted-is : (a n m : ℕ) → counted a n m ≡ m + digit a n
+counted-is : (a n m : ℕ) → countedIn a n m ≡ m + digit a n
 counted-is a n m =
     tested (λ (x : ℕ). x ≡ m + digit a n) (bit a n) (λ e. let f = eqb-true (digit a n) 1 e in omega arith) (λ e. let f = eqb-false (digit a n) 1 e in omega arith)
 
 -- the lowest digit, and the others
-counted-step : (a n : ℕ) → turns (counted a) (suc n) 0 ≡ a % 2 + turns (counted (a / 2)) n 0
+counted-step : (a n : ℕ) → turns (countedIn a) (suc n) 0 ≡ a % 2 + turns (countedIn (a / 2)) n 0
 unfolding turns
 counted-step a zero = counted-is a 0 0 ∙ omega arith
 counted-step a (suc n) =
     let i = counted-step a n in
-    let e = counted-is (a / 2) n (turns (counted (a / 2)) n 0) in
-    counted-is a (suc n) (turns (counted a) (suc n) 0) ∙ omega (arith, i, e, digit-half a n)
+    let e = counted-is (a / 2) n (turns (countedIn (a / 2)) n 0) in
+    counted-is a (suc n) (turns (countedIn a) (suc n) 0) ∙ omega (arith, i, e, digit-half a n)
 
-ones-counted : (w a : ℕ) → a < 2 ^ w → ones a ≡ turns (counted a) w 0
+ones-counted : (w a : ℕ) → a < 2 ^ w → ones a ≡ turns (countedIn a) w 0
 unfolding ones turns
 ones-counted zero a l = let e : a ≡ 0 = omega arith in ap ones e
 ones-counted (suc w) a l = ones-step a ∙ ap (λ (n : ℕ). a % 2 + n) (ones-counted w (a / 2) (omega arith)) ∙ sym (counted-step a w)

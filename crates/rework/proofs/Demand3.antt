@@ -22,7 +22,7 @@ use Rattle.sitting.specs.Run.{Outcome, ran, runOf}
 use Rattle.rework.specs.Alike.{without, sameRecord, sameRecords, alike}
 use Rattle.rework.specs.Members.{modesOf, quiet, members}
 use Rattle.rework.specs.Differ.{SameBut, Value}
-use Rattle.rework.specs.Rework.{Left, endOf, refusalOf, setOf, only, reworked, reworkOf}
+use Rattle.rework.specs.Rework.{Left, endParts, refusalOf, setOf, only, reworked, reworkOf}
 use Rattle.rework.specs.Demands.{Bytes, Demand3}
 use Rattle.rework.proofs.Tape.{Beat, beats, keep, modesIn, joins, Tape, tape, Rows, Kept, Sim, Right}
 use Rattle.rework.proofs.Right.{Sized36, rows-36, right}
@@ -196,7 +196,7 @@ demand3 s d₁ d₂ ram log₁ log₂ pcm₁ sheet₁ readings₁ pcm₂ sheet�
       sheet = sheet-is ∙ sym sheet₂-is;
       readings = ap (λ (y : Left). y .readings) x-is ∙ p₃ .readings ∙ g .readings ∙ sym (ap (λ (o : Outcome). o .readings) i₂ ∙ p₂ .readings);
       samples = ap (λ (y : Left). y .pcm) x-is ∙ p₃ .pcm ∙ ap flatten (g .frames) ∙ sym (ap (λ (o : Outcome). o .pcm) i₂ ∙ p₂ .pcm);
-      end = ap (λ (y : Left). y .dsp) x-is ∙ ap (λ (p : Parts). together (endOf a p (t₁ .parts))) (p₃ .parts) ∙ ap together en ∙ sym (ap (λ (o : Outcome). o .dsp) i₂ ∙ ap together (p₂ .parts));
+      end = ap (λ (y : Left). y .dsp) x-is ∙ ap (λ (p : Parts). together (endParts a p (t₁ .parts))) (p₃ .parts) ∙ ap together en ∙ sym (ap (λ (o : Outcome). o .dsp) i₂ ∙ ap together (p₂ .parts));
       members = ap (λ (y : Left). y .members) x-is;
       count = ap (λ (y : Left). y .count) x-is;
       others = λ t j l o. ap (λ (b : List ℕ). laneAt j (drop (t * 36) b)) sheet-is ∙ others a s₁ s₂ (r .rows) t j l o ∙ sym (ap (λ (b : List ℕ). laneAt j (drop (t * 36) b)) sheet₁-is);

@@ -26,7 +26,7 @@ use Rattle.log.proofs.Places.{moves, ByteValue, byte-value}
 use Rattle.sitting.specs.Run.{Outcome, runWith, runOf}
 use Rattle.sitting.specs.Parts.{Told, Parted, stopAt, recordAt, nextAt, ticksNow, sounding, logRefusal, partOf}
 use Rattle.numbers.specs.Listed.{listed}
-use Rattle.rework.specs.Rework.{picked, endOf, setOf, only, Left, refusalOf, reworkOf, reworkNewOf}
+use Rattle.rework.specs.Rework.{picked, endParts, setOf, only, Left, refusalOf, reworkOf, reworkNewOf}
 use Rattle.rework.specs.Demands.{IsRecord, Bytes}
 use Rattle.rework.specs.KeptFit.{IsFit, EveryCallKeepsFit}
 use Rattle.rework.proofs.Listed.{length-listed, getD-listed}
@@ -108,7 +108,7 @@ picked-keeps P x a new old z j p q =
       | no l ↦ let f : ℕ → _ = (λ i. if bit a i then getD new i x else getD old i x) in let e = length-listed f 8 in subst P (sym (List·getD-eq-default (listed f 8) x {n = j} (omega (arith, e)))) z
     ]
 
-end-fit : (a : ℕ) (new old : Dsp) → IsFit new → IsFit old → IsFit (together (endOf a (apart new) (apart old)))
+end-fit : (a : ℕ) (new old : Dsp) → IsFit new → IsFit old → IsFit (together (endParts a (apart new) (apart old)))
 end-fit a new old f g =
     let p = fit-facts new f in
     let q = fit-facts old g in

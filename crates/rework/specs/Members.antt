@@ -64,10 +64,10 @@ members (r ∷ rs) m a = members rs (modesBy r m) (joinedIn r m a)
 
 -- ---- how many they are
 
-abbrev pub counted : ℕ → ℕ → ℕ → ℕ
-counted a j n =
+abbrev pub countedIn : ℕ → ℕ → ℕ → ℕ
+countedIn a j n =
     if bit a j then n + 1 else
     n
 
 unfoldable pub voicesIn : ℕ → ℕ
-voicesIn a = turns (counted a) 8 0
+voicesIn a = turns (countedIn a) 8 0

@@ -105,8 +105,8 @@ offButKeyed =
       brr = newBrr;
     }
 
-abbrev withVoice : Voice → Dsp
-withVoice v =
+abbrev powerOnWith : Voice → Dsp
+powerOnWith v =
     together
     (record {
       registers = newDsp .registers;
@@ -161,6 +161,6 @@ pub record NotThrough : Type 0 where
   -- "Clamping the mix once at the end"
   pub clampsEach : renderOf loud .left ≢ clampedOnce loud
   -- "Stopping a voice whenever its phase is Off"
-  pub keepsOn : getD (stepOf (withVoice offButKeyed) ram .dsp .voices) 0 noVoice ≢ offButKeyed
+  pub keepsOn : getD (stepOf (powerOnWith offButKeyed) ram .dsp .voices) 0 noVoice ≢ offButKeyed
   -- "Refreshing ENVX of an idle voice after RESET": it would read 0
   pub untouched : afterReset .readings ≢ 0 ∷ []

@@ -38,8 +38,8 @@ endByte a i new old =
 unfoldable pub pickedBytes : ℕ → List ℕ → List ℕ → List ℕ
 pickedBytes a new old = listed (λ i. endByte a i (getD new i 0) (getD old i 0)) 128
 
-abbrev pub endOf : ℕ → Parts → Parts → Parts
-endOf a new old =
+abbrev pub endParts : ℕ → Parts → Parts → Parts
+endParts a new old =
     record {
       registers = pickedBytes a (new .registers) (old .registers);
       voices = picked noVoice a (new .voices) (old .voices);
@@ -92,7 +92,7 @@ reworked a start end o =
     if o .refusal =? 0 then
     record {
       refusal = 0;
-      dsp = together (endOf a (apart (o .dsp)) (apart end));
+      dsp = together (endParts a (apart (o .dsp)) (apart end));
       members = a;
       count = voicesIn a;
       pcm = o .pcm;

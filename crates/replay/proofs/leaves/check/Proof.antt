@@ -6,7 +6,7 @@ use mathlib.Core.Bool.{Bool}
 use Prim.Native.Nat.{ℕ}
 use Rattle.dsp.specs.Noise.{Noise}
 use Rattle.replay.specs.Noise.{Check}
-use Rattle.replay.specs.Leaves.{sizeOf, checkOf}
+use Rattle.replay.specs.Leaves.{recordSize, checkOf}
 use Rattle.replay.specs.declared.leaves.Leaf.{Leaf}
 use Rattle.replay.proofs.leaves.check.Statement.{statement}
 use Rattle.replay.proofs.leaves.check.Tie as tie
@@ -23,15 +23,15 @@ check-spec =
     tie.close
     (tie.spec
     (λ c. search needs)
-    (λ c κs. c .before .before .before .pre ∙ ap sizeOf (c .enum-told .given .1))
+    (λ c κs. c .before .before .before .pre ∙ ap recordSize (c .enum-told .given .1))
     (λ c. search needs)
-    (λ c κs. c .before .before .before .pre ∙ ap sizeOf (c .enum-told2 .given .1))
+    (λ c κs. c .before .before .before .pre ∙ ap recordSize (c .enum-told2 .given .1))
     (λ c. search needs)
-    (λ c κs. c .before .before .before .pre ∙ ap sizeOf (c .enum-told3 .given .1))
+    (λ c κs. c .before .before .before .pre ∙ ap recordSize (c .enum-told3 .given .1))
     (λ c. search needs)
-    (λ c κs. c .before .before .before .pre ∙ ap sizeOf (c .enum-told4 .given .1))
+    (λ c κs. c .before .before .before .pre ∙ ap recordSize (c .enum-told4 .given .1))
     (λ c. search needs)
-    (λ c κs. c .before .before .before .pre ∙ ap sizeOf (c .enum-told5 .given .1))
+    (λ c κs. c .before .before .before .pre ∙ ap recordSize (c .enum-told5 .given .1))
     (λ c. at _ _ (c .before .enum-told .given .1) (stateless _ (c .nibble .ensures)))
     (λ c. at _ _ (c .before .enum-told2 .given .1) (stateless _ (c .equal .ensures)))
     (λ c. at _ _ (c .before .enum-told3 .given .1) (stateless _ (c .equal2 .ensures)))
