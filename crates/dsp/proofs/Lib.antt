@@ -9,6 +9,7 @@ pub mod Writes
 pub mod Tests
 pub mod Fits
 pub mod Lanes
+pub mod Levels
 pub mod Ticks
 pub mod Drives
 pub mod Whole
