@@ -62,7 +62,7 @@ brr-fit v h = facts-second (adsrRule (v .adsr)) (brrRule (v .brr)) (h .1 .1)
 pub level-fit : (v : Voice) → FitVoice v → v .adsr .«envelope_level» ≤ 0x800
 level-fit v h = adsr-fit v h .0
 
-no-voice-fit : FitVoice noVoice
+pub no-voice-fit : FitVoice noVoice
 unfolding all
 no-voice-fit = rule (voiceRule noVoice) .sound refl
 

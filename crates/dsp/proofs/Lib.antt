@@ -1,3 +1,5 @@
+pub mod Rules
+pub mod Clocks
 pub mod Blocks
 pub mod Envelopes
 pub mod Pitch
@@ -10,6 +12,7 @@ pub mod Tests
 pub mod Fits
 pub mod Lanes
 pub mod Levels
+pub mod Moves
 pub mod Ticks
 pub mod Drives
 pub mod Whole

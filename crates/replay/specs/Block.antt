@@ -9,7 +9,7 @@ use Rattle.numbers.specs.Unsigned.{wrapped}
 use Rattle.dsp.specs.declared.voice.Voice.{Voice}
 use Rattle.dsp.specs.declared.registers.Answer.{Answer}
 use Rattle.replay.specs.Records.{byteAt, u16At, i16At, _=ℤ?_}
-use Rattle.replay.specs.Machine.{zeros, steady, playback, keyedOn, tickOf, soundOf}
+use Rattle.replay.specs.Machine.{zeros, steady, playback, playing, answered, soundOf}
 
 -- RAM with the first k bytes of a part at an address
 unfoldable pub laid : List ℕ → ℕ → ℕ → List ℕ → List ℕ
@@ -34,7 +34,7 @@ ramOf r = laid (take 2 r) (wrapped (u16At r 0 + 0x100)) 2 (laid (take 9 (drop 2 
 
 unfoldable pub playedBlock : List ℕ → Answer
 playedBlock r =
-    tickOf (keyedOn steady (playback (wrapped (u16At r 0 + 0x100)) (i16At r 11) (i16At r 13) 0) 0 (replicate 4 (pos 0))) (ramOf r)
+    answered (playing steady (playback (wrapped (u16At r 0 + 0x100)) (i16At r 11) (i16At r 13) 0) 0 (replicate 4 (pos 0))) (ramOf r)
 
 abbrev pub voiceSays : Voice → List ℕ → Bool
 voiceSays v r =

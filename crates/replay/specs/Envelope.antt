@@ -10,7 +10,7 @@ use Rattle.dsp.specs.declared.adsr.EnvelopePhase.the-variants.{Attack, Decay, S
 use Rattle.dsp.specs.declared.adsr.Adsr.{Adsr}
 use Rattle.dsp.specs.declared.registers.Answer.{Answer}
 use Rattle.replay.specs.Records.{byteAt, u16At}
-use Rattle.replay.specs.Machine.{zeros, playback, keyedOn, tickOf, soundOf}
+use Rattle.replay.specs.Machine.{zeros, playback, playing, answered, soundOf}
 
 -- adsr_mode, gain_param, attack_rate, decay_rate, sustain_level, sustain_rate, level, phase, counter | level, phase, counter
 
@@ -55,4 +55,4 @@ abbrev pub answerSays : Answer → List ℕ → Bool
 answerSays a r = (a .refusal =? 0) && typed r && envelopeSays (soundOf (a .dsp) .adsr) r
 
 unfoldable pub envelopeEqual : List ℕ → Bool
-envelopeEqual r = answerSays (tickOf (keyedOn (adsrOf r) (playback 0 (pos 0) (pos 0) 16) 0 (replicate 4 (pos 0))) zeros) r
+envelopeEqual r = answerSays (answered (playing (adsrOf r) (playback 0 (pos 0) (pos 0) 16) 0 (replicate 4 (pos 0))) zeros) r

@@ -43,8 +43,8 @@ playback addr prev1 prev2 fill =
       «buffer_fill» = fill;
     }
 
-abbrev pub keyedOn : Adsr → Brr → ℕ → List ℤ → Voice
-keyedOn adsr brr position history =
+abbrev pub playing : Adsr → Brr → ℕ → List ℤ → Voice
+playing adsr brr position history =
     record {
       «left_vol» = pos 0;
       «right_vol» = pos 0;
@@ -59,8 +59,8 @@ keyedOn adsr brr position history =
     }
 
 -- d with another voice 0
-abbrev pub withVoice : Dsp → Voice → Dsp
-withVoice d v =
+abbrev pub withFirst : Dsp → Voice → Dsp
+withFirst d v =
     together
     (record {
       registers = d .registers;
@@ -75,8 +75,8 @@ withVoice d v =
 abbrev pub answerOf : After → Answer
 answerOf a = record { refusal = a .refusal; dsp = a .dsp }
 
-unfoldable pub tickOf : Voice → List ℕ → Answer
-tickOf v ram = answerOf (stepOf (withVoice newDsp v) ram)
+unfoldable pub answered : Voice → List ℕ → Answer
+answered v ram = answerOf (stepOf (withFirst newDsp v) ram)
 
 abbrev pub soundOf : Dsp → Voice
 soundOf d = getD (d .voices) 0 noVoice

@@ -2,7 +2,9 @@
 ghost use mathlib.Core.Path.{_≡_};
 ghost use Prim.Native.Nat.{_≤_, _<_};
 ghost use lib.ListN.{length};
+ghost use Rattle.dsp.specs.Noise.{Noise};
 ghost use Rattle.replay.specs.Leaves.{sizeOf, started, nibbleEqual, checkOf};
+ghost use Rattle.replay.specs.Noise.{Check};
 use crate::records::Carry;
 use crate::records::Checked;
 use crate::records::byte_at;
@@ -33,7 +35,7 @@ pub fn size(leaf: Leaf) -> usize
 
 // What the first record is handed: the noise of `new`.
 pub fn start() -> Carry
-    ensures { λ r. ⌜ r ≡ started ⌝ }
+    ensures { λ r. ⌜ _≡_ {A = Noise} (record { lfsr = r .lfsr; counter = r .counter }) started ⌝ }
 {
     let d = Dsp::new();
     Carry {
@@ -59,7 +61,7 @@ fn nibble(bytes: &[u8]) -> bool
 
 pub fn check(leaf: Leaf, bytes: &[u8], carry: Carry) -> Checked
     requires { ⌜ length (now bytes) ≡ sizeOf leaf ⌝ }
-    ensures { λ r. ⌜ r ≡ checkOf leaf (now (bytes .entry)) carry ⌝ }
+    ensures { λ r. ⌜ _≡_ {A = Check} (record { equal = r .equal; carry = record { lfsr = r .carry .lfsr; counter = r .carry .counter } }) (checkOf leaf (now (bytes .entry)) (record { lfsr = carry .lfsr; counter = carry .counter })) ⌝ }
 {
     match leaf {
         Leaf::Nibble => Checked {

@@ -16,9 +16,8 @@ use Rattle.log.specs.declared.Record.the-variants.{Write, Ticks, Reading}
 use Rattle.log.specs.declared.Next.{Next}
 use Rattle.log.specs.declared.Next.the-variants.{On, Off}
 use Rattle.log.proofs.Places.{moves, ByteValue, byte-value}
-use Rattle.rework.specs.declared.modes.Modes.{Modes}
 use Rattle.rework.specs.Alike.{named, stays, without}
-use Rattle.rework.specs.Members.{modesAfter, quiet, joinedBy, joinedOver, members}
+use Rattle.rework.specs.Members.{Modes, modesAfter, quiet, joinedBy, joinedOver, members}
 use Rattle.rework.proofs.Bits.{itself}
 use Rattle.rework.proofs.Tape.{Beat, put, tick, ask, ticksThen, beats, Small, keep, Quiet, joins}
 

@@ -11,7 +11,7 @@ use lib.ListN.{getD, drop, replicate}
 use lib.Signed.{mag}
 use Rattle.numbers.specs.Choice.{_<?_}
 use Rattle.numbers.specs.Bits.{withBit}
-use Rattle.numbers.specs.Listed.{listed, turns}
+use Rattle.numbers.specs.Listed.{listed, turns, folded, all}
 use Rattle.sound.specs.Clock.{periods, periodOf}
 use Rattle.sound.specs.Noise.{shifted}
 use Rattle.dsp.specs.Noise.{noiseTick}
@@ -25,11 +25,10 @@ use Rattle.dsp.specs.Registers.{writeParts, writeAt, writeOf}
 use Rattle.dsp.specs.Voice.{pitchOf, positionOf, samplesTaken, filled, placed, decodedAt, nextAddress, nextBlock, resolved, pushed, takeOne, consume, advanced, interpolated, sounded, voiceStep}
 use Rattle.dsp.specs.Mix.{scaledOutput, withVoice, dryOf, masterOf, renderOf}
 use Rattle.dsp.specs.Sheet.{laneAt, pairBytes, laneBytes}
-use Rattle.dsp.specs.Echo.{echoRead, historyNow, echoNow, echoWritten, lengthNow, pointerNext, echoMoved, echoTick, echoFrom, echoLane}
+use Rattle.dsp.specs.Echo.{echoRead, historyNow, echoNow, echoWritten, lengthNow, pointerNext, echoMoved, echoTick, echoFrom, echoLane, storedFrom}
 use Rattle.dsp.specs.Lane.{waited, noised, sourceOf, polledOf, waitedOf, cellAfter, cellOf, shownCell, putBytes, added, ownCell, turned}
 use Rattle.dsp.specs.Tick.{turn, voicesTick, globalsTick, tickOf}
 use Rattle.dsp.specs.Ticks.{benchTick, ticksOf, stepOf}
-use Rattle.dsp.specs.Inside.{sharedFrom}
 use Rattle.sound.specs.Sound.{firSum, firOf}
 use Rattle.dsp.specs.declared.voice.Voice.{Voice}
 use Rattle.dsp.specs.declared.registers.Dsp.{Dsp}
@@ -38,6 +37,7 @@ use Rattle.log.specs.Log.{writeRecord, ticksRecord, readingRecord, byMark, read
 use Rattle.log.specs.Measure.{measureOf}
 use Rattle.sitting.specs.Run.{Outcome, runOf, runMeasured, runWith}
 use Rattle.sitting.specs.Play.{play, playAll}
+use Rattle.dsp.specs.Clock.{fires, countedOn}
 use Rattle.rework.specs.Members.{modesOf, quiet, joinedBy, joinedOver, members, voicesIn}
 use Rattle.rework.specs.Rework.{Left, picked, refusalOf, reworkOf}
 use Rattle.rework.specs.Refusals.{firstOf}
@@ -103,7 +103,7 @@ differ-by : {A : Type 0} (f : A → ℕ) {x y : A} (m n : ℕ) → f x ≡ m →
 differ-by f m n p q d = λ e. d (sym p ∙ ap f e ∙ q)
 
 computed : Seen × NotThrough
-unfolding firstOf silenceVoice silenceAll firSum firOf echoRead historyNow echoNow withVoice dryTurn dryOf masterOf renderOf stepOf unclamped periods periodOf shifted byteAt wordAt decodeBlock tickDue echoWritten lengthNow pointerNext echoMoved echoTick echoFrom echoLane attackTick gainTick phaseTick envelopeTick fitVoices fit keyedOff keyedOn waited noised sourceOf polledOf waitedOf cellAfter cellOf shownCell withBit putBytes added ownCell turned scaledOutput noiseTick turns writeParts writeAt writeOf pairBytes laneBytes turn voicesTick globalsTick sharedFrom tickOf benchTick ticksOf pitchOf positionOf samplesTaken filled placed decodedAt nextAddress nextBlock resolved pushed takeOne consume advanced interpolated sounded voiceStep writeRecord ticksRecord readingRecord byMark readAt decodeFrom decode measureOf play playAll runMeasured runWith without sameRecord sameRecords alike quiet joinedBy joinedOver members voicesIn listed picked refusalOf reworkOf
+unfolding firstOf firSum firOf echoRead historyNow echoNow withVoice folded dryOf masterOf renderOf stepOf unclamped periods periodOf shifted byteAt wordAt decodeBlock fires countedOn storedFrom echoWritten lengthNow pointerNext echoMoved echoTick echoFrom echoLane attackTick gainTick phaseTick envelopeTick all fit keyedOff keyedOn waited noised sourceOf polledOf waitedOf cellAfter cellOf shownCell withBit putBytes added ownCell turned scaledOutput noiseTick turns writeParts writeAt writeOf pairBytes laneBytes turn voicesTick globalsTick tickOf benchTick ticksOf pitchOf positionOf samplesTaken placed decodedAt nextAddress nextBlock resolved pushed takeOne consume advanced interpolated sounded voiceStep writeRecord ticksRecord readingRecord byMark readAt decodeFrom decode measureOf play playAll runMeasured runWith without sameRecord sameRecords alike quiet joinedBy joinedOver members voicesIn listed picked refusalOf reworkOf
 computed = (
   record {
     members = refl;

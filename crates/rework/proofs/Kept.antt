@@ -1,6 +1,6 @@
 -- A run, and the run of its log without the named voices' own writes, agree outside the set as it runs.
 use mathlib.Core.Bool.{Bool, true, false, true≢false}
-use mathlib.Core.List.{List, [], _∷_, _++_}
+use mathlib.Core.List.{List, [], _∷_, _++_, map}
 use mathlib.Core.Logic.{_≢_}
 use mathlib.Core.Path.{_≡_, refl, sym, ap, subst, _∙_}
 use Prim.Native.Nat.{ℕ, zero, suc, _+_, _*_, _/_, _%_, _≤_, _<_}
@@ -9,7 +9,7 @@ use native.Mathlib.Decide.{ℕ-discrete}
 use native.Mathlib.Numerals.{add-one}
 use borrow.Author.Tests.{ne-eqb, lt-ltb}
 use lib.IntN.{ℤ}
-use lib.ListN.{getD, set, drop, length, length-set, length-append}
+use lib.ListN.{getD, set, drop, length, length-set, length-append, length-map}
 use lib.Seq.{getD-set-same, getD-set-other, set-getD}
 use Rattle.numbers.specs.Choice.{if_then_else_, _<?_, _=?_}
 use Rattle.numbers.specs.Signed.{highZ}
@@ -18,7 +18,7 @@ use Rattle.numbers.specs.Bits.{bit, withBit}
 use Rattle.numbers.proofs.Bits.{bit-here, bit-there}
 use Rattle.sound.specs.Sound.{even}
 use Rattle.numbers.specs.Listed.{turns}
-use Rattle.dsp.specs.Noise.{noiseTick}
+use Rattle.dsp.specs.Noise.{noiseTick, noiseSample}
 use Rattle.dsp.specs.Machine.{noVoice, Parts, Globals}
 use Rattle.dsp.specs.Keys.{silenced, polledDelay}
 use Rattle.dsp.specs.Registers.{resets, writeVoice, globalsAfter, tapsAfter, writeParts}
@@ -27,17 +27,16 @@ use Rattle.dsp.specs.Mix.{Stereo}
 use Rattle.dsp.specs.Sheet.{pairBytes, laneBytes, laneAt}
 use Rattle.dsp.specs.Echo.{Echo, EchoLane, echoWritten, echoTick, echoLane}
 use Rattle.dsp.specs.Lane.{waited, sourceOf, Cell, polledOf, waitedOf, cellAfter, cellOf, putBytes, added, landed, ownCell, turned, Shared}
-use Rattle.dsp.specs.Tick.{Round, landing, turn, voicesTick, globalsTick, sharedOf, everything, startOf, Ticked, tickOf}
-use Rattle.dsp.specs.Inside.{settingsOf, sharedFrom}
+use Rattle.dsp.specs.Tick.{Round, landing, turn, voicesTick, globalsTick, sharedOf, everything, startOf, Ticked, tickOf, polls, konNow}
 use Rattle.dsp.specs.declared.voice.Voice.{Voice}
 use Rattle.dsp.specs.declared.tick.Work.{Work}
 use Rattle.dsp.proofs.Whole.{full}
 use Rattle.numbers.proofs.Turns.{turns-keep}
 use Rattle.dsp.proofs.Tests.{lt, _and_}
 use Rattle.dsp.proofs.Batches.{lane-part}
-use Rattle.rework.specs.declared.modes.Modes.{Modes}
+use Rattle.numbers.proofs.Lists.{map-at}
 use Rattle.rework.specs.Alike.{named}
-use Rattle.rework.specs.Members.{modesAfter, joinedBy}
+use Rattle.rework.specs.Members.{Modes, modesAfter, joinedBy}
 use Rattle.rework.specs.Differ.{Outside, SameBytes, SameBut}
 use Rattle.rework.proofs.Bits.{itself, unless, joined-more, joined-closed}
 use Rattle.rework.proofs.Lanes.{lane-last}
@@ -54,13 +53,13 @@ abbrev Eight : List Voice → Type 0
 Eight vs = length vs ≡ 8
 
 pub sized-write : (i x : ℕ) (p : Parts) → Sized p → Sized (writeParts i x p)
-unfolding writeParts silenceAll silenceVoice
+unfolding writeParts
 sized-write i x p h =
     record {
       registers = chosen (λ (l : List ℕ). length l ≡ 128) (resets i x) (simp length-set (h .registers)) (simp length-set (h .registers));
       voices =
           chosen Eight (i % 16 <? 8) (length-set (p .voices) (i / 16) _ ∙ h .voices)
-          (chosen Eight (resets i x) (turns-keep Eight silenceVoice 8 (λ n vs l e. length-set vs n _ ∙ e) 8 (p .voices) (omega arith) (h .voices)) (h .voices));
+          (chosen Eight (resets i x) (length-map (p .voices) silenced ∙ h .voices) (h .voices));
       delays = h .delays;
     }
 
@@ -110,13 +109,9 @@ SameAt a d xs ys = (j : ℕ) → j < 8 → Outside a j → getD xs j d ≡ getD 
 same-set : {A : Type 0} (a : ℕ) (d : A) (xs ys : List A) (n : ℕ) (v w : A) → length xs ≡ 8 → length ys ≡ 8 → n < 8 → (Outside a n → v ≡ w) → SameAt a d xs ys → SameAt a d (set xs n v) (set ys n w)
 same-set a d xs ys n v w l m b h s = λ j k o. stored (λ z. z) d xs ys n j v w (omega arith) (omega arith) (λ e. h (rw e at o)) (s j k o)
 
-silence-same : (a : ℕ) (vs ws : List Voice) → length vs ≡ 8 → length ws ≡ 8 → SameAt a noVoice vs ws → SameAt a noVoice (silenceAll vs) (silenceAll ws)
-unfolding silenceAll silenceVoice
-silence-same a vs ws l m s =
-    turns-both (λ n us ts. (length us ≡ 8) × (length ts ≡ 8) × SameAt a noVoice us ts) silenceVoice silenceVoice 8
-    (λ n us ts b h. (length-set us n _ ∙ h .0, length-set ts n _ ∙ h .1, same-set a noVoice us ts n _ _ (h .0) (h .1) b (λ o. ap silenced (h .2 n b o)) (h .2)))
-    8 vs ws (omega arith) (l, m, s)
-    .2
+silence-same : (a : ℕ) (vs ws : List Voice) → length vs ≡ 8 → length ws ≡ 8 → SameAt a noVoice vs ws → SameAt a noVoice (map silenced vs) (map silenced ws)
+silence-same a vs ws l m s j b o =
+    map-at silenced noVoice noVoice vs j (omega arith) ∙ ap silenced (s j b o) ∙ sym (map-at silenced noVoice noVoice ws j (omega arith))
 
 -- bytes that may be stored at m on the two sides
 record Storable (a m v w : ℕ) : Type 0 where
@@ -245,8 +240,8 @@ source-same : (pmon j : ℕ) (x y : ℤ) → (bit pmon j ≡ true → x ≡ y) �
 unfolding sourceOf
 source-same pmon j x y h = go (bit pmon j) refl
   where
-    go : (t : Bool) → bit pmon j ≡ t → (if t then From x else Unmodulated) ≡ (if t then From y else Unmodulated)
-    go true e = ap From (h e)
+    go : (t : Bool) → bit pmon j ≡ t → (if t then modulatedBy x else plain) ≡ (if t then modulatedBy y else plain)
+    go true e = ap modulatedBy (h e)
     go false e = refl
 
 -- a cell is what its source, its voice, its delay, two bytes of its own and its ENDX bit make it
@@ -256,9 +251,7 @@ cell-same : (c : Shared) (ram : List ℕ) (j : ℕ) (x y : ℤ) (v w : Voice) (d
 unfolding ownCell cellOf waitedOf
 cell-same c ram j x y v w d e b k es ev ed e4 e8 ex =
     λ i.
-    cellAfter c j (ev i)
-    (waited ram (c .dir) (e4 i) (settingsOf (ev i)) (ev i .pitch) (es i) (e8 i) (polledDelay (bit (c .kon) j) (ed i))
-    (record { play = polledOf c j (ev i) (ex i); samples = ev i .brr .«sample_buffer» }))
+    cellAfter c j (waited ram (c .dir) (e4 i) (es i) (e8 i) (polledDelay (bit (c .kon) j) (ed i)) (polledOf c j (ev i) (ex i)))
 
 -- a lane put behind n others
 lanes-more : (O : ℕ → Type 0) (n : ℕ) (x y u v : List ℕ) → length x ≡ n * 4 → length y ≡ n * 4 → length u ≡ 4 → length v ≡ 4 → (O n → u ≡ v)
@@ -379,7 +372,9 @@ shared-same : (a : ℕ) (p q : Parts) → SameBut a p q → sharedOf (p .globals
 shared-same a p q s =
     let koff = s .bytes .others 0x5C (omega arith) (omega arith) (omega arith) in
     let dir = s .bytes .others 0x5D (omega arith) (omega arith) (omega arith) in
-    λ i. sharedFrom (s .globals i) (noiseTick (s .globals i .flg) (s .globals i .noise)) (koff i) (dir i)
+    λ i.
+    let g = s .globals i in
+    record { koff = if polls g then koff i else 0; kon = konNow g; «dir_base» = g .«dir_base»; dir = dir i; non = g .non; pmon = g .pmon; eon = g .eon; noise = noiseSample (noiseTick (g .flg) (g .noise)) }
 
 -- the echo's record does not see what the voices put into it
 abbrev echoIn : Parts → List ℕ → Stereo → Echo
@@ -399,7 +394,7 @@ record Alongside (a : ℕ) (t u : Ticked) : Type 0 where
 
 tick-same : (a : ℕ) (o₁ o₂ : List ℕ) (p q : Parts) (ram : List ℕ) → Sized p → Sized q → Closed a (p .globals .pmon) → SameBut a p q
     → Alongside a (tickOf everything o₁ p ram) (tickOf everything o₂ q ram)
-unfolding tickOf voicesTick sharedFrom echoLane pairBytes
+unfolding tickOf voicesTick echoLane pairBytes
 tick-same a o₁ o₂ p q ram h k l s =
     let c = sharedOf (p .globals) (p .registers) in
     let d = sharedOf (q .globals) (q .registers) in

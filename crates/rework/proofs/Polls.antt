@@ -1,6 +1,6 @@
 -- Every voice polled first, then the noise, then the voices: the same tick as `tickOf`, which polls each voice in its lane. A poll of a voice
 -- passes over the steps of the voices before it, and with its own step makes its turn.
-use mathlib.Core.Bool.{Bool, true, false, not, _&&_}
+use mathlib.Core.Bool.{Bool, true, false}
 use mathlib.Core.List.{List, [], _∷_, _++_}
 use mathlib.Core.Logic.{_≢_}
 use mathlib.Core.Path.{_≡_, refl, sym, ap, subst, _∙_}
@@ -18,18 +18,15 @@ use Rattle.numbers.specs.Bits.{bit, withBit}
 use Rattle.numbers.proofs.Bits.{bit-here, bit-there, with-byte, byte-ext}
 use Rattle.numbers.specs.Listed.{turns}
 use Rattle.dsp.specs.Machine.{noVoice, apart}
-use Rattle.dsp.specs.With.{withKey}
-use Rattle.dsp.specs.Envelope.{isOff}
-use Rattle.dsp.specs.Keys.{keyedOff, keyedOn, polledDelay}
+use Rattle.dsp.specs.Keys.{keyedOff, keyedOn, polledVoice, polledEndx, polledDelay}
+use Rattle.dsp.specs.Voice.{Sounding}
 use Rattle.dsp.specs.Sheet.{laneBytes}
 use Rattle.dsp.specs.Lane.{waited, sourceOf, Cell, polledOf, waitedOf, cellAfter, cellOf, putEndx, putBytes, added, ownCell, turned, Shared}
 use Rattle.dsp.specs.Tick.{Round, turn, voicesTick, globalsTick, sharedOf, startOf, tickOf}
-use Rattle.dsp.specs.Inside.{settingsOf, sharedFrom}
-use Rattle.dsp.specs.declared.adsr.EnvelopePhase.the-variants.{Release}
 use Rattle.dsp.specs.declared.voice.Voice.{Voice}
 use Rattle.numbers.proofs.Turns.{turns-keep, turns-same}
 use Rattle.dsp.proofs.Whole.{full, tick-whole}
-use Rattle.rework.specs.Order.{polledVoice, Polled, pollOne, polledParts, echoBehind, PollFirst}
+use Rattle.rework.specs.Order.{Polled, pollOne, polledParts, echoBehind, PollFirst}
 use Rattle.rework.proofs.Shows.{put-sized, put-endx}
 
 -- ---- stores
@@ -72,19 +69,6 @@ with-swap x n j a b l m q d =
 
 -- ---- a poll, and the step behind it
 
--- Release, by a test
-off-play : (b e : Bool) (v : Voice)
-    → (let released : Play → Play = (λ p. withKey p false (record { level = p .envelope .level; phase = Release; counter = p .envelope .counter })) in
-    playOf e (voiceOf v (if b then released (playOf false v) else playOf false v) (v .brr .«sample_buffer»)) ≡ (if b then released (playOf e v) else playOf e v))
-off-play true e v = refl
-off-play false e v = refl
-
--- the play of a polled voice: ENDX goes with the register
-polled-play : (off on : Bool) (dir : ℕ) (v : Voice) (e : Bool) → playOf (if on then false else e) (polledVoice off on dir v) ≡ keyedOn on dir (v .srcn) (keyedOff off (playOf e v))
-unfolding keyedOn keyedOff
-polled-play off true dir v e = refl
-polled-play off false dir v e = off-play (off && not (isOff (v .adsr .«envelope_phase»))) e v
-
 -- what all voices see, behind the poll
 abbrev behind : Shared → Shared
 behind c = record { koff = 0; kon = 0; «dir_base» = c .«dir_base»; dir = c .dir; non = c .non; pmon = c .pmon; eon = c .eon; noise = c .noise }
@@ -104,11 +88,10 @@ module _ (c : Shared) (ram : List ℕ) where
       → cellOf (behind c) ram n prev (polledVoice (off n) (on n) (c .«dir_base») v) (polledDelay (on n) delay) srcn envx (if on n then false else e) ≡ cellOf c ram n prev v delay srcn envx e
   unfolding cellOf cellAfter waitedOf polledOf keyedOff keyedOn
   cell-behind n prev v delay srcn envx e =
-      let w = polledVoice (off n) (on n) (c .«dir_base») v in
-      let p = playOf (if on n then false else e) w in
-      let by : ℕ → Play → Cell = (λ d q. cellAfter c n v (waited ram (c .dir) srcn (settingsOf v) (v .pitch) (sourceOf (c .pmon) n prev) envx d (record { play = q; samples = v .brr .«sample_buffer» }))) in
-      ap (λ (b : Bool). by (polledDelay b (polledDelay (on n) delay)) (keyedOn b (c .«dir_base») (w .srcn) (keyedOff b p))) (no-bit n)
-      ∙ ap (by (polledDelay (on n) delay)) (polled-play (off n) (on n) (c .«dir_base») v e)
+      let s : Sounding = record { voice = polledVoice (off n) (on n) (c .«dir_base») v; endx = if on n then false else e } in
+      let by : Bool → Cell =
+      (λ b. cellAfter c n (waited ram (c .dir) srcn (sourceOf (c .pmon) n prev) envx (polledDelay b (polledDelay (on n) delay)) (record { voice = polledVoice b b (c .«dir_base») (s .voice); endx = polledEndx b (s .endx) }))) in
+      ap by (no-bit n)
 
   -- ---- rounds
 
@@ -340,7 +323,7 @@ dir-kept koff kon dir p =
     8 p (omega arith) refl
 
 pub poll-first : PollFirst
-unfolding tickOf voicesTick globalsTick sharedFrom turns
+unfolding tickOf voicesTick globalsTick turns
 poll-first d ram old v =
     let p = apart d in
     let c = sharedOf (p .globals) (p .registers) in

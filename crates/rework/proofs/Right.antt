@@ -1,11 +1,11 @@
 -- A rework over any old sheet that agrees outside the set gives the run of the same log: lane by lane, tick by tick, beat by beat.
 use mathlib.Core.Bool.{Bool, true, false}
-use mathlib.Core.List.{List, [], _∷_, _++_}
+use mathlib.Core.List.{List, [], _∷_, _++_, map}
 use mathlib.Core.Path.{_≡_, refl, sym, ap, subst, _∙_}
 use Prim.Native.Nat.{ℕ, zero, suc, _+_, _*_, _/_, _%_, _≤_, _<_}
 use native.Mathlib.Omega.{arith}
 use lib.IntN.{ℤ, pos}
-use lib.ListN.{getD, set, drop, replicate, length, length-set, length-append, length-replicate}
+use lib.ListN.{getD, set, drop, replicate, length, length-set, length-append, length-replicate, length-map}
 use Rattle.numbers.specs.Choice.{if_then_else_, _<?_, _=?_}
 use Rattle.numbers.specs.Signed.{cutZ}
 use Rattle.numbers.proofs.Choice.{chosen}
@@ -24,7 +24,6 @@ use Rattle.dsp.specs.Echo.{echoNow, historyNow, echoMoved, echoWritten, echoTic
 use Rattle.dsp.specs.Lane.{Cell, cellAfter, cellOf, ownCell, shownCell, added, putBytes, landed, turned, Shared}
 use Rattle.dsp.specs.Tick.{Round, landing, turn, voicesTick, globalsTick, sharedOf, everything, startOf, Ticked, frameOf, mixed, tickOf}
 use Rattle.dsp.specs.Ticks.{benchTick}
-use Rattle.dsp.specs.Inside.{sharedFrom}
 use Rattle.dsp.specs.declared.voice.Voice.{Voice}
 use Rattle.dsp.specs.declared.registers.Dsp.{Dsp}
 use Rattle.dsp.specs.declared.tick.Work.{Work}
@@ -33,6 +32,8 @@ use Rattle.numbers.proofs.Turns.{turns-keep, set-keeps}
 use Rattle.dsp.proofs.Lanes.{fit-kept-either}
 use Rattle.dsp.proofs.Batches.{lane-part}
 use Rattle.dsp.proofs.Ticks.{RoundFit, BenchFit, fit-kept-turn, fit-kept-bench, fit-kept-bench-write}
+use Rattle.dsp.proofs.Fits.{level-fit}
+use Rattle.dsp.proofs.Moves.{volumes-kept}
 use Rattle.rework.specs.Differ.{Outside, Value}
 use Rattle.rework.proofs.Lanes.{lane-last}
 use Rattle.rework.proofs.Sixteen.{Is16, joined-halves, output16, fir16, noise16, sample16}
@@ -82,15 +83,32 @@ beside-set a n vs ws v w h e l r =
 
 -- ---- a register write
 
+-- what each of two lists of voices shows where both are silenced
+silenced-both : (R : Voice → Voice → Type 0) → ((v w : Voice) → R v w → R (silenced v) (silenced w)) → (vs ws : List Voice) → length vs ≡ length ws
+    → (j : ℕ) → R (getD vs j noVoice) (getD ws j noVoice) → R (getD (map silenced vs) j noVoice) (getD (map silenced ws) j noVoice)
+silenced-both R f [] [] e j h = h
+silenced-both R f [] (w ∷ ws) e j h = absurd (omega arith)
+silenced-both R f (v ∷ vs) [] e j h = absurd (omega arith)
+silenced-both R f (v ∷ vs) (w ∷ ws) e zero h = f v w h
+silenced-both R f (v ∷ vs) (w ∷ ws) e (suc j) h = silenced-both R f vs ws (omega arith) j h
+
+beside-silenced : (a : ℕ) (vs ws : List Voice) → Beside a vs ws → Beside a (map silenced vs) (map silenced ws)
+beside-silenced a vs ws h =
+    record {
+      count = length-map vs silenced ∙ h .count ∙ sym (length-map ws silenced);
+      voices = λ j l b. silenced-both _≡_ (λ v w e. ap silenced e) vs ws (h .count) j (h .voices j l b);
+      lefts = λ j l. silenced-both (λ (v w : Voice). v .«left_vol» ≡ w .«left_vol») (λ v w e. e) vs ws (h .count) j (h .lefts j l);
+      rights = λ j l. silenced-both (λ (v w : Voice). v .«right_vol» ≡ w .«right_vol») (λ v w e. e) vs ws (h .count) j (h .rights j l);
+    }
+
 beside-write : (a i x : ℕ) (vs ws : List Voice) → i < 128 → Beside a vs ws → Beside a (voicesAfter i x vs) (voicesAfter i x ws)
-unfolding silenceAll silenceVoice
 beside-write a i x vs ws l h =
     let n = i / 16 in
     let m : n < 8 = omega arith in
     chosen-both (Beside a) (i % 16 <? 8)
     (beside-set a n vs ws _ _ h (λ b. ap (writeVoice (i % 16) x) (h .voices n m b)) (λ k. at (i % 16) 0 (cutZ 0x80 (pos x)) (h .lefts n m k)) (λ k. at (i % 16) 1 (cutZ 0x80 (pos x)) (h .rights n m k)))
     (chosen-both (Beside a) (resets i x)
-    (turns-both (Beside a) silenceVoice 8 (λ j us zs k g. beside-set a j us zs _ _ g (λ b. ap silenced (g .voices j k b)) (g .lefts j k) (g .rights j k)) 8 vs ws (omega arith) h)
+    (beside-silenced a vs ws h)
     h)
 
 -- ---- one lane
@@ -120,18 +138,13 @@ shown-read y v delay h l r = record { out = joined-halves (y .out) h; envx = ref
 abbrev cellIn : Shared → List ℕ → ℕ → Round → Cell
 cellIn c ram j s = ownCell c ram j (s .sums .prev) (getD (s .voices) j noVoice) (getD (s .delays) j 0) (s .bytes)
 
-volumes-kept : (c : Shared) (ram : List ℕ) (j : ℕ) (s : Round)
-    → (getD (s .voices) j noVoice .«left_vol» ≡ cellIn c ram j s .voice .«left_vol») × (getD (s .voices) j noVoice .«right_vol» ≡ cellIn c ram j s .voice .«right_vol»)
-unfolding ownCell cellOf cellAfter
-volumes-kept c ram j s = (refl, refl)
-
 -- a rework's round beside the run's
 record Abreast (a : ℕ) (r s : Round) : Type 0 where
   beside : Beside a (r .voices) (s .voices)
   waits : length (r .delays) ≡ length (s .delays)
   delays : (j : ℕ) → j < 8 → bit a j ≡ true → getD (r .delays) j 0 ≡ getD (s .delays) j 0
   bytes : r .bytes ≡ s .bytes
-  acc : r .sums ≡ s .sums
+  sums : r .sums ≡ s .sums
   row : r .row ≡ s .row
 
 -- cells that show the same leave the rounds abreast
@@ -165,7 +178,7 @@ lane-both a j false c ram r s old new b l h o f =
     let v = getD (r .voices) j noVoice in
     let d = getD (r .delays) j 0 in
     let y = cellIn c ram j s in
-    let k = volumes-kept c ram j s in
+    let k = volumes-kept c ram j (s .sums .prev) (getD (s .voices) j noVoice) (getD (s .delays) j 0) (s .bytes) in
     let g = shown-read y v d o (h .beside .lefts j l ∙ k .0) (h .beside .rights j l ∙ k .1) in
     land-both a j false c r s old new (shownCell old v d) y h (subst (λ (z : List ℕ). Shows (shownCell z v d) y) (sym (f b)) g)
     (λ t. let z : _≡_ {A = ℕ} 0 1 = cc in absurd (omega arith)) (f b)
@@ -204,8 +217,8 @@ out16 c ram j s n l h =
     let v = getD (s .voices) j noVoice in
     let d = getD (s .delays) j 0 in
     let x = cellIn c ram j s .voice in
-    let f = fit-kept-either true c ram j (s .sums .prev) v d (s .bytes) [] (h .fit .voices j l) (h .fit .delays j l) in
-    output16 (x .adsr .«envelope_phase») (x .adsr .«envelope_level») (x .«current_sample») (f .voice .adsr .level)
+    let f = fit-kept-either true c ram j (s .sums .prev) v d (s .bytes) [] (h .fit .voices j) (h .fit .delays j .0) in
+    output16 (x .adsr .«envelope_phase») (x .adsr .«envelope_level») (x .«current_sample») (level-fit x (f .voice))
     (sample16 true c ram j (s .sums .prev) v d (s .bytes) [] n (h .samples j l))
 
 -- a turn puts its lane behind the row
@@ -261,7 +274,6 @@ good-bench p ram old l g = record { ram = l; round = g .round .fit; globals = g 
 
 -- what all voices see of the noise
 shared16 : (g : Globals) (bytes : List ℕ) → Is16 (sharedOf g bytes .noise)
-unfolding sharedFrom
 shared16 g bytes = noise16 (noiseTick (g .flg) (g .noise))
 
 -- what a tick leaves
@@ -274,7 +286,7 @@ good-tick w old p ram l g =
 
 -- what a write leaves
 pub good-write : (i x : ℕ) (p : Parts) → i < 128 → x < 256 → Good p → Good (writeParts i x p)
-unfolding writeParts silenceAll silenceVoice
+unfolding writeParts
 good-write i x p l m g =
     let k = fit-kept-bench-write i x _ l m (good-bench p (replicate 0x10000 0) [] (length-replicate {A = ℕ} 0x10000 0) g) in
     let h = g .round .samples in
@@ -284,7 +296,7 @@ good-write i x p l m g =
             fit = k .round;
             samples =
                 chosen Samples16 (i % 16 <? 8) (sample-set (p .voices) (i / 16) _ (h (i / 16) (omega arith)) h)
-                (chosen Samples16 (resets i x) (turns-keep Samples16 silenceVoice 8 (λ n vs b c. sample-set vs n _ (c n b) c) 8 (p .voices) (omega arith) h) h);
+                (chosen Samples16 (resets i x) (λ n b. silenced-both (λ (v w : Voice). Is16 (v .«current_sample»)) (λ v w e. e) (p .voices) (p .voices) refl n (h n b)) h);
           };
       globals = k .globals;
     }
@@ -318,7 +330,6 @@ unfolding echoFrom echoMoved globalsTick
 globs-both g k slot l r e = ap globalsTick e
 
 shared-both : (g k : Globals) (x y : List ℕ) → bare g ≡ bare k → x ≡ y → sharedOf g x ≡ sharedOf k y
-unfolding sharedFrom
 shared-both g k x y e d = λ i. sharedOf (e i) (d i)
 
 -- the stereo sample is of the echo's output and of numbers that are not the echo's

@@ -17,9 +17,8 @@ use Rattle.dsp.specs.Tick.{Ticked, globalsTick, tickOf}
 use Rattle.dsp.specs.declared.tick.Work.{Work}
 use Rattle.log.specs.declared.Record.{Record}
 use Rattle.log.specs.declared.Record.the-variants.{Write, Ticks, Reading}
-use Rattle.rework.specs.declared.modes.Modes.{Modes}
 use Rattle.rework.specs.Alike.{named}
-use Rattle.rework.specs.Members.{modesAfter, joinedBy}
+use Rattle.rework.specs.Members.{Modes, modesAfter, joinedBy}
 use Rattle.rework.specs.Differ.{Outside, SameBut}
 
 -- ---- beats

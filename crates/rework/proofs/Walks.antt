@@ -10,8 +10,7 @@ use Rattle.log.specs.declared.Record.{Record}
 use Rattle.log.specs.declared.Next.{Next}
 use Rattle.log.specs.declared.Next.the-variants.{On, Off}
 use Rattle.log.proofs.Places.{opened-at, closed-at}
-use Rattle.rework.specs.declared.modes.Modes.{Modes}
-use Rattle.rework.specs.Members.{modesBy, quietIn, quiet, joinedBy, joinedOver, joinedIn, members}
+use Rattle.rework.specs.Members.{Modes, modesBy, quietIn, quiet, joinedBy, joinedOver, joinedIn, members}
 use Rattle.rework.proofs.Bits.{joined-twice}
 
 -- no tick changes PMON, so that ticks join what the first of them does

@@ -9,9 +9,12 @@ use Rattle.dsp.specs.Registers.{at}
 use Rattle.dsp.specs.declared.registers.Dsp.{Dsp}
 use Rattle.log.specs.declared.Record.{Record}
 use Rattle.log.specs.declared.Record.the-variants.{Write, Ticks, Reading}
-use Rattle.rework.specs.declared.modes.Modes.{Modes}
 
 -- ---- the two fields that decide, as the writes leave them; a tick changes neither
+
+pub record Modes : Type 0 where
+  pub flg : ℕ
+  pub pmon : ℕ
 
 abbrev pub modesOf : Dsp → Modes
 modesOf d = record { flg = d .flg; pmon = d .pmon }

@@ -1,18 +1,27 @@
 -- After n turns the sums are n turns of the definition.
 use borrow.Author.Needs.{needs}
-use mathlib.Core.Path.{_≡_, refl}
-use Prim.Native.Nat.{_≤_, _-_}
+use mathlib.Core.List.{List}
+use mathlib.Core.Path.{_≡_, refl, sym, ap, _∙_}
+use Prim.Native.Nat.{ℕ, _≤_, _-_}
 use native.Mathlib.Omega.{arith}
 use native.Mathlib.Numerals.{add-one}
+use lib.ListN.{getD, length}
 use mir.Syntax.{w16}
 use Rattle.numbers.proofs.Range.{landed}
 use Rattle.numbers.specs.Listed.{turns}
-use Rattle.dsp.specs.Mix.{dryOf}
+use Rattle.numbers.proofs.Turns.{folded-turns}
+use Rattle.dsp.specs.Machine.{noVoice}
+use Rattle.dsp.specs.Mix.{Stereo, silent, withOutput, dryOf}
+use Rattle.dsp.specs.Inside.{asStereo}
+use Rattle.dsp.specs.declared.voice.Voice.{Voice}
 use Rattle.dsp.proofs.mix.dry.Statement.{statement}
 use Rattle.dsp.proofs.mix.dry.Tie as tie
 
+abbrev dryTurn : List Voice → ℕ → Stereo → Stereo
+dryTurn vs n s = withOutput s (getD vs n noVoice)
+
 abbrev Inv-loop : tie.InvT-loop
-Inv-loop voices s₀ n₀ s n = (n ≤ 8) × (s ≡ turns (dryTurn voices) n s₀)
+Inv-loop voices s₀ n₀ s n = (n ≤ 8) × (asStereo s ≡ turns (dryTurn voices) n silent)
 
 abbrev μ-loop : tie.MeasureT-loop
 μ-loop voices s₀ n₀ s n = 8 - n
@@ -22,10 +31,10 @@ unfolding turns
 loop-holds c = (search needs, refl)
 
 scaled-output-requires : tie.Need-scaled-output-requires Inv-loop μ-loop
-scaled-output-requires c κs = c .before .before .before .before .before .pre .most (c .before .before .before .before .loop .n) (omega arith)
+scaled-output-requires c κs = c .before .before .before .before .before .pre (c .before .before .before .before .loop .n)
 
 loop-again : tie.Need-loop-again Inv-loop μ-loop
-unfolding turns dryTurn
+unfolding turns
 loop-again c =
     let o = c .before .before .before .scaled-output in
     let l = c .before .before .before .before .before .before .before .before .loop in
@@ -33,7 +42,11 @@ loop-again c =
 
 returns : tie.Need-returns Inv-loop μ-loop
 unfolding dryOf
-returns c = let e : 8 ≡ c .before .loop .n = omega arith in rw e (c .before .loop .inv .1)
+returns c =
+    let vs = c .before .before .args .t1 in
+    let sized : length vs ≡ 8 = search needs in
+    let e : c .before .loop .n ≡ length vs = omega arith in
+    c .before .loop .inv .1 ∙ ap (λ (n : ℕ). turns (dryTurn vs) n silent) e ∙ sym (folded-turns noVoice withOutput silent vs)
 
 pub dry-spec : {M : Type 1} → statement M
 dry-spec =

@@ -2,16 +2,16 @@
 use borrow.Author.Needs.{needs}
 use mathlib.Core.Path.{ap, _∙_}
 use Rattle.dsp.specs.Ticks.{stepOf}
-use Rattle.replay.specs.Machine.{withVoice, answerOf, tickOf}
+use Rattle.replay.specs.Machine.{withFirst, answerOf, answered}
 use Rattle.replay.proofs.machine.tick.Statement.{statement}
 use Rattle.replay.proofs.machine.tick.Tie as tie
 
 returns : tie.Need-returns
-unfolding tickOf
+unfolding answered
 returns c =
     let a = c .before .before .before .before .before .before .args in
     let d = c .before .before .before .before .new .ensures in
-    ap answerOf (c .before .before .step .ensures) ∙ (λ i. answerOf (stepOf (withVoice (d i) (a .v)) (a .ram .now)))
+    ap answerOf (c .before .before .step .ensures) ∙ (λ i. answerOf (stepOf (withFirst (d i) (a .v)) (a .ram .now)))
 
 pub tick-spec : {M : Type 1} → statement M
 tick-spec =

@@ -8,8 +8,7 @@ use lib.ListN.{length}
 use borrow.Author.Tests.{eq-eqb, ne-eqb, not-true, not-false}
 use Rattle.numbers.specs.Choice.{if_then_else_, _=?_}
 use Rattle.log.specs.Log.{decode}
-use Rattle.rework.specs.declared.modes.Modes.{Modes}
-use Rattle.rework.specs.Members.{quiet, members}
+use Rattle.rework.specs.Members.{Modes, quiet, members}
 use Rattle.rework.specs.Rework.{refusalOf}
 use Rattle.rework.proofs.reworking.checked.Statement.{statement}
 use Rattle.rework.proofs.reworking.checked.Tie as tie
