@@ -7,7 +7,7 @@ use Rattle.numbers.specs.Choice.{_=?_}
 use Rattle.numbers.proofs.Choice.{chosen}
 use Rattle.dsp.specs.Machine.{noVoice}
 use Rattle.dsp.specs.Brr.{wordAt, decodeBlock}
-use Rattle.dsp.specs.Voice.{Sounding, PitchSource, samplesTaken, positionOf, placed, decodedAt, nextAddress, nextBlock, resolved, pushed, pushedNext, lastOf, takeOne, consume, advanced}
+use Rattle.dsp.specs.Voice.{Sounding, PitchSource, samplesTaken, placed, decodedAt, nextAddress, nextBlock, resolved, pushed, pushedNext, lastOf, takeOne, consume, advanced}
 use Rattle.dsp.specs.declared.voice.Voice.{Voice}
 
 abbrev pub Low : Voice → Type 0
