@@ -6,8 +6,8 @@ use Prim.Native.Nat.{_/_, _≤_}
 use Rattle.dsp.specs.Machine.{noVoice}
 use Rattle.dsp.specs.With.{withEnvelope}
 use Rattle.dsp.specs.Envelope.{envelopeTick}
-use Rattle.dsp.specs.Voice.{Sounding, advanced, interpolated, shown, sounded, voiceStep}
-use Rattle.dsp.specs.Inside.{settingsOf, asAdsr, asVoice, asSounding, asSource}
+use Rattle.dsp.specs.Voice.{Sounding, advanced, interpolated, Stepped, shown, sounded, voiceStep}
+use Rattle.dsp.specs.Inside.{settingsOf, asAdsr, asVoice, asSource}
 use Rattle.dsp.specs.declared.adsr.Adsr.{Adsr}
 use Rattle.dsp.specs.declared.adsr.Settings.{Settings}
 use Rattle.dsp.specs.declared.voice.Voice.{Voice}
@@ -17,21 +17,18 @@ use Rattle.dsp.proofs.Levels.{Low, resolved-low, advanced-low, pitched}
 use Rattle.dsp.proofs.play.Play.step.Statement.{statement}
 use Rattle.dsp.proofs.play.Play.step.Tie as tie
 
--- the voice with its new envelope
-abbrev enveloped : tie.After-update-envelope → Voice → Sounding
-enveloped c v =
+-- what is left after the envelope
+abbrev onward : tie.After-update-envelope → Voice → Adsr → Stepped
+onward c v f =
     let a = c .before .before .before .before .args in
-    record { voice = withEnvelope (asVoice v (a .self) (a .samples .now)) (asAdsr (settingsOf (v .adsr)) (c .update-envelope .result)); endx = a .self .endx }
+    sounded (a .ram .now) (a .dir) (a .srcn) (asSource (a .source)) (a .envx) (record { voice = withEnvelope (asVoice v (a .self) (a .samples .now)) f; endx = a .self .endx })
 
--- of these settings, it goes on as the definition does
+-- the envelope of a voice with these settings
 ticked : (c : tie.After-update-envelope) (v : Voice) → settingsOf (v .adsr) ≡ c .before .before .before .before .args .s
-    → sounded (c .before .before .before .before .args .ram .now) (c .before .before .before .before .args .dir) (c .before .before .before .before .args .srcn) (asSource (c .before .before .before .before .args .source)) (c .before .before .before .before .args .envx) (enveloped c v)
-    ≡ voiceStep (c .before .before .before .before .args .ram .now) (c .before .before .before .before .args .dir) (c .before .before .before .before .args .srcn) (asSource (c .before .before .before .before .args .source)) (c .before .before .before .before .args .envx) (asSounding v (c .before .before .before .before .args .self) (c .before .before .before .before .args .samples .now))
-unfolding voiceStep
+    → onward c v (asAdsr (settingsOf (v .adsr)) (c .update-envelope .result)) ≡ onward c v (envelopeTick (asAdsr (settingsOf (v .adsr)) (c .before .before .before .before .args .self .envelope)))
 ticked c v e =
-    let a = c .before .before .before .before .args in
-    ap (λ (f : Adsr). sounded (a .ram .now) (a .dir) (a .srcn) (asSource (a .source)) (a .envx) (record { voice = withEnvelope (asVoice v (a .self) (a .samples .now)) f; endx = a .self .endx }))
-    (subst (λ (s : Settings). asAdsr s (c .update-envelope .result) ≡ envelopeTick (asAdsr s (a .self .envelope))) (sym e) (c .update-envelope .ensures))
+    ap (onward c v)
+    (subst (λ (s : Settings). asAdsr s (c .update-envelope .result) ≡ envelopeTick (asAdsr s (c .before .before .before .before .args .self .envelope))) (sym e) (c .update-envelope .ensures))
 
 -- its level
 low : (c : tie.After-update-envelope) → c .update-envelope .result .level ≤ 0x800
@@ -60,12 +57,13 @@ small c =
     subst LowIn {x = i 1} (sym {b = i 1} i) k
 
 returns : tie.Need-returns
+unfolding voiceStep
 returns c v p e =
     let a = c .before .before .before .before .before .before .args in
-    rests _ _ _ _ _ (enveloped (c .before .before) v) (sym (c .before .is-idle .ensures v (a .samples .now)) ∙ c .if1 .taken) ∙ ticked (c .before .before) v e
+    rests _ _ _ _ _ _ (sym (c .before .is-idle .ensures v (a .samples .now)) ∙ c .if1 .taken) ∙ ticked (c .before .before) v e
 
 returns-2 : tie.Need-returns-2
-unfolding interpolated
+unfolding voiceStep interpolated
 returns-2 c v p e =
     let a = c .before .before .before .before .before .before .before .before .before .before .before .before .before .before .before .args in
     let d = c .before .before .before .before .advanced .ensures v p in
@@ -73,7 +71,7 @@ returns-2 c v p e =
     let q = _∙_ {b = d 1} d (ap (advanced (a .ram .now) (a .dir) (a .srcn) (asSource (a .source))) (c .before .before .before .before .before .before .before .resolved .ensures v)) in
     (λ j. record { sounding = i j; envx = i j .voice .adsr .«envelope_level» / 16 })
     ∙ ap shown q
-    ∙ plays _ _ _ _ _ (enveloped (c .before .before .before .before .before .before .before .before .before .before .before) v) (sym (c .before .before .before .before .before .before .before .before .before .before .is-idle .ensures v (a .samples .now)) ∙ c .before .before .before .before .before .before .before .before .before .if1 .left)
+    ∙ plays _ _ _ _ _ _ (sym (c .before .before .before .before .before .before .before .before .before .before .is-idle .ensures v (a .samples .now)) ∙ c .before .before .before .before .before .before .before .before .before .if1 .left)
     ∙ ticked (c .before .before .before .before .before .before .before .before .before .before .before) v e
 
 pub step-spec : {M : Type 1} → statement M
