@@ -2,34 +2,16 @@
 use borrow.Author.Needs.{needs}
 use native.Mathlib.Omega.{arith}
 use mathlib.Core.Path.{_≡_, _∙_, refl}
-use Prim.Native.Nat.{ℕ, _-_, _/_, _%_}
-use Rattle.dsp.specs.Machine.{noVoice}
+use Prim.Native.Nat.{_-_, _/_, _%_}
 use Rattle.dsp.specs.With.{withPosition}
 use Rattle.dsp.specs.Voice.{samplesTaken, positionOf, advanced, consume}
 use Rattle.dsp.specs.Inside.{asVoice, asSource}
-use Rattle.dsp.specs.declared.voice.Voice.{Voice}
 use Rattle.dsp.proofs.Plays.{position-least}
+use Rattle.dsp.proofs.Levels.{pitched}
 use Rattle.dsp.proofs.play.Play.advanced.Statement.{statement}
 use Rattle.dsp.proofs.play.Play.advanced.Tie as tie
 
--- any voice of this pitch
-pitched : ℕ → Voice
-pitched pitch =
-    record {
-      «left_vol» = noVoice .«left_vol»;
-      «right_vol» = noVoice .«right_vol»;
-      pitch = pitch;
-      srcn = noVoice .srcn;
-      «key_on» = noVoice .«key_on»;
-      «pitch_counter» = noVoice .«pitch_counter»;
-      «current_sample» = noVoice .«current_sample»;
-      history = noVoice .history;
-      adsr = noVoice .adsr;
-      brr = noVoice .brr;
-    }
-
 sub-n : tie.Need-sub-n
-unfolding pitched
 sub-n c =
     let a = c .before .before .before .args in
     let v = pitched (a .pitch) in
@@ -39,7 +21,7 @@ sub-n c =
 returns : tie.Need-returns
 unfolding advanced samplesTaken
 returns c v e =
-    let a = c .before .before .before .before .before .args in
+    let a = c .before .before .before .before .before .before .args in
     let old = a .self .«pitch_counter» % 0x4000 / 0x1000 in
     let p = c .before .before .before .position-of .ensures v (a .samples .now) e in
     c .before .consume .ensures v

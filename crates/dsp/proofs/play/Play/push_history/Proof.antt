@@ -1,7 +1,5 @@
 -- The history of four, and the next index.
 use borrow.Author.Needs.{needs}
-use native.Mathlib.Omega.{arith}
-use mathlib.Core.Path.{sym}
 use Rattle.numbers.specs.Listed.{listed}
 use Rattle.numbers.proofs.Lists.{dropped-listed}
 use lib.IntN.{pos}

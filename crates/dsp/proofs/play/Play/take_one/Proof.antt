@@ -1,9 +1,6 @@
 -- By the nibble index.
 use borrow.Author.Needs.{needs}
-use native.Mathlib.Omega.{arith}
 use mathlib.Core.Path.{_≡_, _∙_, ap, sym}
-use lib.IntN.{pos}
-use lib.ListN.{getD}
 use borrow.Author.Tests.{eq-eqb, ne-eqb}
 use mir.Syntax.{w16}
 use Rattle.numbers.proofs.Range.{landed}
