@@ -1,10 +1,10 @@
 -- The rule of a fit record, tested as the code tests it: its chain of tests nests to the left, the rule's to the right.
 use mathlib.Core.Bool.{Bool, true, false, _&&_, and-true, and-assoc}
-use mathlib.Core.List.{List, [], _∷_, _++_}
+use mathlib.Core.List.{List, [], _∷_, _++_, map}
 use mathlib.Core.Path.{_≡_, refl, sym, ap, _∙_}
 use Prim.Native.Nat.{ℕ, suc, _<_}
 use native.Mathlib.Omega.{arith}
-use lib.ListN.{getD, length, take}
+use lib.ListN.{getD, length, length-map, take}
 use lib.Seq.{take-all}
 use Rattle.numbers.specs.Choice.{_≤?_}
 use Rattle.numbers.specs.Listed.{all}
@@ -42,6 +42,10 @@ pub three-is : (cs ds es : List Clause) → (chained cs && meets ds && meets es)
 three-is cs ds es = ap (λ b. b && meets ds && meets es) (chained-is cs) ∙ sym (meets-both (cs ++ ds) es ∙ ap (λ b. b && meets es) (meets-both cs ds))
 
 -- ---- voices and delays, tested in turn
+
+-- of an array of structs the machine knows how many values stand for them (for `search`)
+pub unmapped : {A B : Type 0} (f : A → B) (l : List A) (n : ℕ) → length (map f l) ≡ n → length l ≡ n
+unmapped f l n e = sym (length-map l f) ∙ e
 
 abbrev pub fitUpTo : Dsp → ℕ → Bool
 fitUpTo d n = meets (globalsRule (globalsOf d)) && all (λ v. meets (voiceRule v)) (take n (d .voices)) && all (λ k. meets (delayRule k)) (take n (d .«kon_delay»))
