@@ -1,56 +1,33 @@
 -- A voice's tick only moves what `moved` names: what that keeps of a voice, whatever it is given, a lane keeps. So volumes, pitch and SRCN stay.
-use mathlib.Core.Bool.{Bool, true, false, not, _&&_}
+use mathlib.Core.Bool.{Bool, not, _&&_}
 use mathlib.Core.List.{List}
 use mathlib.Core.Path.{_≡_, refl}
-use Prim.Native.Nat.{ℕ, zero, suc}
+use Prim.Native.Nat.{ℕ}
 use lib.IntN.{ℤ}
 use Rattle.numbers.specs.Choice.{_=?_}
 use Rattle.numbers.specs.Bits.{bit}
 use Rattle.numbers.proofs.Choice.{chosen}
-use Rattle.dsp.specs.With.{moved, withEnvelope, withPosition}
+use Rattle.dsp.specs.With.{moved, withEnvelope}
 use Rattle.dsp.specs.Envelope.{isOff, envelopeTick}
-use Rattle.dsp.specs.Keys.{silenced, keyedOff, keyedOn, polledDelay}
-use Rattle.dsp.specs.Brr.{wordAt, decodeBlock}
-use Rattle.dsp.specs.Voice.{Sounding, PitchSource, positionOf, samplesTaken, filled, placed, decodedAt, nextAddress, nextBlock, resolved, pushed, pushedNext, lastOf, takeOne, consume, idle, advanced, interpolated, Stepped, sounded, voiceStep}
+use Rattle.dsp.specs.Keys.{keyedOff, keyedOn, polledDelay}
+use Rattle.dsp.specs.Voice.{Sounding, PitchSource, resolved, pushed, idle, advanced, interpolated, Stepped, sounded, voiceStep}
 use Rattle.dsp.specs.Lane.{Shared, polledOf, Waiting, waited, sourceOf, waitedOf, noised, cellAfter, cellOf, ownCell}
 use Rattle.dsp.specs.declared.adsr.Adsr.{Adsr}
 use Rattle.dsp.specs.declared.brr.Brr.{Brr}
 use Rattle.dsp.specs.declared.voice.Voice.{Voice}
+use Rattle.dsp.proofs.Taking.{played-keeps}
 
 module _ (K : Voice → Type 0) (keep : (v : Voice) (on : Bool) (position : ℕ) (sample : ℤ) (history : List ℤ) (a : Adsr) (b : Brr) → K v → K (moved v on position sample history a b)) where
   abbrev InTick : Sounding → Type 0
   InTick s = K (s .voice)
 
-  decoded-keeps : (ram : List ℕ) (a : ℕ) (s : Sounding) → InTick s → InTick (decodedAt ram a s)
-  unfolding decodedAt placed
-  decoded-keeps ram a s k =
-      let d = decodeBlock ram a (s .voice .brr .prev1) (s .voice .brr .prev2) in
-      chosen K (d .end && not (d .loops)) (keep (filled a d (s .voice)) _ _ _ _ _ _ (keep (s .voice) _ _ _ _ _ _ k)) (keep (s .voice) _ _ _ _ _ _ k)
-
-  taken-keeps : (ram : List ℕ) (dir srcn : ℕ) (s : Sounding) → InTick s → InTick (takeOne ram dir srcn s)
-  unfolding takeOne nextBlock pushed
-  taken-keeps ram dir srcn s k =
-      let p : InTick (pushedNext s) = keep (s .voice) _ _ _ _ _ _ k in
-      chosen InTick (lastOf s) (decoded-keeps ram (nextAddress ram dir srcn (pushedNext s .voice .brr)) (pushedNext s) p) p
-
-  consumed-keeps : (ram : List ℕ) (dir srcn n : ℕ) (s : Sounding) → InTick s → InTick (consume ram dir srcn n s)
-  unfolding consume
-  consumed-keeps ram dir srcn zero s k = k
-  consumed-keeps ram dir srcn (suc n) s k =
-      let t = takeOne ram dir srcn s in
-      let p = taken-keeps ram dir srcn s k in
-      chosen InTick (lastOf s && not (t .voice .«key_on»)) p (consumed-keeps ram dir srcn n t p)
-
   step-keeps : (ram : List ℕ) (dir srcn : ℕ) (x : PitchSource) (envx : ℕ) (s : Sounding) → InTick s → InTick (voiceStep ram dir srcn x envx s .sounding)
-  unfolding voiceStep sounded resolved advanced interpolated
+  unfolding voiceStep sounded interpolated pushed
   step-keeps ram dir srcn x envx s k =
       let e : Sounding = record { voice = withEnvelope (s .voice) (envelopeTick (s .voice .adsr)); endx = s .endx } in
       let p : InTick e = keep (s .voice) _ _ _ _ _ _ k in
-      let r = chosen InTick (e .voice .brr .«buffer_fill» =? 0) (decoded-keeps ram (wordAt ram (e .voice .brr .addr)) e p) p in
-      let t = resolved ram e in
-      let q : Sounding = record { voice = withPosition (t .voice) (positionOf x (t .voice)); endx = t .endx } in
-      let u = consumed-keeps ram dir srcn (samplesTaken x (t .voice)) q (keep (t .voice) _ _ _ _ _ _ r) in
-      chosen (λ (y : Stepped). InTick (y .sounding)) (idle (e .voice)) p (keep (consume ram dir srcn (samplesTaken x (t .voice)) q .voice) _ _ _ _ _ _ u)
+      let t = played-keeps K (λ a d v h. keep v _ _ _ _ _ _ h) (λ v h. keep v _ _ _ _ _ _ h) (λ v h. keep v _ _ _ _ _ _ h) (λ v q l h. keep v _ _ _ _ _ _ h) ram dir srcn x e p in
+      chosen (λ (y : Stepped). InTick (y .sounding)) (idle (e .voice)) p (keep (advanced ram dir srcn x (resolved ram e) .voice) _ _ _ _ _ _ t)
 
   polled-keeps : (c : Shared) (j : ℕ) (v : Voice) (endx : Bool) → K v → InTick (polledOf c j v endx)
   unfolding polledOf keyedOff keyedOn

@@ -11,15 +11,16 @@ use Rattle.numbers.specs.Bits.{bit}
 use Rattle.numbers.specs.Listed.{turns}
 use Rattle.dsp.specs.Machine.{noVoice, Parts, globalsOf, apart, together}
 use Rattle.dsp.specs.Fit.{Fit}
-use Rattle.dsp.specs.Mix.{outputOf, silent, withVoice, withOutput, dryOf, masterOf, renderOf, Stereo}
+use Rattle.dsp.specs.Mix.{outputOf, silent, withVoice, withOutput, masterOf, renderOf, Stereo}
 use Rattle.dsp.specs.Sheet.{pairBytes}
 use Rattle.dsp.specs.Echo.{echoLane}
 use Rattle.dsp.specs.Lane.{cellAfter, cellOf, ownCell, added, turned, Shared}
 use Rattle.dsp.specs.Tick.{Round, turn, voicesTick, everything, startOf, sharedOf, mixedFrom, frameOf, tickOf}
 use Rattle.dsp.specs.declared.voice.Voice.{Voice}
 use Rattle.dsp.specs.declared.registers.Dsp.{Dsp}
-use Rattle.numbers.proofs.Turns.{turns-same, set-here, set-there, folded-turns}
+use Rattle.numbers.proofs.Turns.{turns-same, set-here, set-there}
 use Rattle.dsp.proofs.Ticks.{RoundFit, fit-kept-turns, fit-kept-tick}
+use Rattle.dsp.proofs.Outputs.{dryUpTo, dry-whole}
 use Rattle.dsp.proofs.Fits.{facts-fit}
 
 -- the mask of all eight
@@ -50,10 +51,6 @@ out-is : (c : Shared) (ram : List ℕ) (j : ℕ) (prev : ℤ) (v : Voice) (delay
 unfolding ownCell cellOf cellAfter
 out-is c ram j prev v delay bytes = refl
 
--- the sum of the first n voices of a list
-abbrev dryUpTo : List Voice → ℕ → Stereo
-dryUpTo vs n = turns (λ k s. withOutput s (getD vs k noVoice)) n silent
-
 -- the voices before n are not changed by a store at n
 dry-before : (vs : List Voice) (y : Voice) (n : ℕ) → dryUpTo (set vs n y) n ≡ dryUpTo vs n
 dry-before vs y n =
@@ -74,11 +71,6 @@ dry-after old c ram (suc n) r l f e =
     ((λ i. withVoice (out-is c ram n (s .sums .prev) (getD (s .voices) n noVoice) (getD (s .delays) n 0) (s .bytes) i) (y .«left_vol») (y .«right_vol») ((dry-after old c ram n r (omega arith) f e ∙ sym (dry-before (s .voices) y n)) i))
     ∙ ap (withOutput (dryUpTo (set (s .voices) n y) n)) (sym h))
 
--- a list of eight voices is summed whole
-dry-whole : (vs : List Voice) → length vs ≡ 8 → dryUpTo vs 8 ≡ dryOf vs
-unfolding dryOf
-dry-whole vs e = ap (dryUpTo vs) (sym e) ∙ sym (folded-turns noVoice withOutput silent vs)
-
 -- the sample of a tick is the stereo sample of the record that it leaves
 pub tick-renders : (d : Dsp) (ram old : List ℕ) → length ram ≡ 0x10000 → length (d .registers) ≡ 128 → length (d .voices) ≡ 8 → length (d .«kon_delay») ≡ 8 → Fit d
     → tickOf everything old (apart d) ram .frame
@@ -89,5 +81,5 @@ tick-renders d ram old lr lb lv ld h =
     let c = sharedOf (p .globals) (p .registers) in
     let f = facts-fit _ (fit-kept-tick everything d ram old lr lb lv ld h) in
     let r : RoundFit (startOf p) = record { bytes = lb; count = lv; waits = ld; voices = h .voices; delays = h .delays } in
-    let e = dry-after old c ram 8 (startOf p) (omega arith) r refl ∙ dry-whole _ (fit-kept-turns 0xFF old c ram 8 (startOf p) (omega arith) r .count) in
+    let e = dry-after old c ram 8 (startOf p) (omega arith) r refl ∙ dry-whole _ 8 (fit-kept-turns 0xFF old c ram 8 (startOf p) (omega arith) r .count) in
     rw f (ap (λ (s : Stereo). frameOf (masterOf (globalsOf (together (tickOf everything old p ram .parts))) s)) e)

@@ -1,27 +1,20 @@
 -- After n turns the sums are n turns of the definition.
 use borrow.Author.Needs.{needs}
-use mathlib.Core.List.{List}
-use mathlib.Core.Path.{_≡_, refl, sym, ap, _∙_}
-use Prim.Native.Nat.{ℕ, _≤_, _-_}
+use mathlib.Core.Path.{_≡_, refl, _∙_}
+use Prim.Native.Nat.{_≤_, _-_}
 use native.Mathlib.Omega.{arith}
 use native.Mathlib.Numerals.{add-one}
-use lib.ListN.{getD, length}
+use lib.ListN.{length}
 use mir.Syntax.{w16}
 use Rattle.numbers.proofs.Range.{landed}
 use Rattle.numbers.specs.Listed.{turns}
-use Rattle.numbers.proofs.Turns.{folded-turns}
-use Rattle.dsp.specs.Machine.{noVoice}
-use Rattle.dsp.specs.Mix.{Stereo, silent, withOutput, dryOf}
 use Rattle.dsp.specs.Inside.{asStereo}
-use Rattle.dsp.specs.declared.voice.Voice.{Voice}
+use Rattle.dsp.proofs.Outputs.{dryUpTo, dry-whole}
 use Rattle.dsp.proofs.mix.dry.Statement.{statement}
 use Rattle.dsp.proofs.mix.dry.Tie as tie
 
-abbrev dryTurn : List Voice → ℕ → Stereo → Stereo
-dryTurn vs n s = withOutput s (getD vs n noVoice)
-
 abbrev Inv-loop : tie.InvT-loop
-Inv-loop voices s₀ n₀ s n = (n ≤ 8) × (asStereo s ≡ turns (dryTurn voices) n silent)
+Inv-loop voices s₀ n₀ s n = (n ≤ 8) × (asStereo s ≡ dryUpTo voices n)
 
 abbrev μ-loop : tie.MeasureT-loop
 μ-loop voices s₀ n₀ s n = 8 - n
@@ -41,12 +34,10 @@ loop-again c =
     (search needs, rw (c .with-voice .ensures, add-one, turns, ← l .inv .1, landed w16 (o .ok), o .ensures) (search needs))
 
 returns : tie.Need-returns Inv-loop μ-loop
-unfolding dryOf
 returns c =
     let vs = c .before .before .args .t1 in
     let sized : length vs ≡ 8 = search needs in
-    let e : c .before .loop .n ≡ length vs = omega arith in
-    c .before .loop .inv .1 ∙ ap (λ (n : ℕ). turns (dryTurn vs) n silent) e ∙ sym (folded-turns noVoice withOutput silent vs)
+    c .before .loop .inv .1 ∙ dry-whole vs _ (omega arith)
 
 pub dry-spec : {M : Type 1} → statement M
 dry-spec =

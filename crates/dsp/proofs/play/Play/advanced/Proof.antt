@@ -6,8 +6,8 @@ use Prim.Native.Nat.{_-_, _/_, _%_}
 use Rattle.dsp.specs.With.{withPosition}
 use Rattle.dsp.specs.Voice.{samplesTaken, positionOf, advanced, consume}
 use Rattle.dsp.specs.Inside.{asVoice, asSource}
-use Rattle.dsp.proofs.Plays.{position-least}
-use Rattle.dsp.proofs.Levels.{pitched}
+use Rattle.dsp.proofs.Pitch.{position-least}
+use Rattle.dsp.proofs.Plays.{pitched}
 use Rattle.dsp.proofs.play.Play.advanced.Statement.{statement}
 use Rattle.dsp.proofs.play.Play.advanced.Tie as tie
 

@@ -12,8 +12,7 @@ use Rattle.dsp.specs.declared.adsr.Adsr.{Adsr}
 use Rattle.dsp.specs.declared.adsr.Settings.{Settings}
 use Rattle.dsp.specs.declared.voice.Voice.{Voice}
 use Rattle.dsp.proofs.Envelopes.{fit-kept-envelope}
-use Rattle.dsp.proofs.Plays.{Ready, rests, plays, resolved-ready}
-use Rattle.dsp.proofs.Levels.{Low, resolved-low, advanced-low, pitched}
+use Rattle.dsp.proofs.Plays.{Ready, resolved-ready, Low, low-played, pitched, rests, plays}
 use Rattle.dsp.proofs.play.Play.step.Statement.{statement}
 use Rattle.dsp.proofs.play.Play.step.Tie as tie
 
@@ -43,17 +42,17 @@ after-resolve c =
     let e = c .resolved .ensures noVoice in
     subst Ready {x = e 1} (sym {b = e 1} e) (resolved-ready _ _ (record { sized = s .pre .3; block = s .pre .5 }))
 
--- the level after the samples
+-- and after the samples
 small : (c : tie.After-interpolated) → c .interpolated .result .envelope .level ≤ 0x800
 unfolding interpolated
 small c =
-    let v = pitched (c .before .before .before .before .before .before .before .before .before .before .before .before .before .args .pitch) in
-    let q = c .before .before .before .before .before .resolved .ensures v in
+    let a = c .before .before .before .before .before .before .before .before .before .before .before .before .before .args in
+    let v = pitched (a .pitch) in
     let d = c .before .before .advanced .ensures v refl in
+    let e = _∙_ {b = d 1} d (ap (advanced (a .ram .now) (a .dir) (a .srcn) (asSource (a .source))) (c .before .before .before .before .before .resolved .ensures v)) in
     let i = c .interpolated .ensures v [] in
     let LowIn : Sounding → Type 0 = λ (s : Sounding). Low (s .voice) in
-    let h = subst LowIn {x = q 1} (sym {b = q 1} q) (resolved-low _ _ (low (c .before .before .before .before .before .before .before .before .before))) in
-    let k = subst LowIn {x = d 1} (sym {b = d 1} d) (advanced-low _ _ _ _ _ h) in
+    let k = subst LowIn {x = e 1} (sym {b = e 1} e) (low-played _ _ _ _ _ (low (c .before .before .before .before .before .before .before .before .before))) in
     subst LowIn {x = i 1} (sym {b = i 1} i) k
 
 returns : tie.Need-returns
