@@ -9,7 +9,8 @@ use lib.ListN.{length, take, set, length-set}
 use lib.Seq.{take-suc-set, take-all}
 use Rattle.numbers.specs.Unsigned.{wrapped}
 use Rattle.numbers.specs.Listed.{listed}
-use Rattle.dsp.specs.Brr.{byteAt, wordAt, endOf, loopOf, nibbleAt, sampleOf, newest, DecodedBlock, decodeBlock}
+use Rattle.dsp.specs.Ram.{byteAt, wordAt}
+use Rattle.dsp.specs.Brr.{endOf, loopOf, nibbleAt, sampleOf, newest, DecodedBlock, decodeBlock}
 
 -- an address that has wrapped before the sum
 pub wraps : (a k : ℕ) → wrapped (wrapped a + k) ≡ wrapped (a + k)

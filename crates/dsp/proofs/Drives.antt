@@ -19,9 +19,8 @@ use Rattle.dsp.specs.Mix.{masterOf, Stereo}
 use Rattle.dsp.specs.Sheet.{pairBytes, laneBytes, laneAt}
 use Rattle.dsp.specs.Echo.{EchoLane, echoLane}
 use Rattle.dsp.specs.Lane.{Landed, turned, Shared, Sums}
-use Rattle.dsp.specs.Tick.{Round, landing, turn, globalsTick, startOf, frameOf, partsAfter, mixed}
+use Rattle.dsp.specs.Tick.{Round, landing, turn, globalsTick, startOf, frameOf, partsAfter, mixed, sharedOf}
 use Rattle.dsp.specs.Ticks.{Bench, onward, benchTick, ticksOf}
-use Rattle.dsp.specs.Inside.{sharedFrom}
 use Rattle.dsp.specs.declared.voice.Voice.{Voice}
 use Rattle.dsp.specs.declared.tick.Work.{Work}
 use Rattle.dsp.proofs.Ticks.{RoundFit, BenchFit, fit-kept-turn, glued, fit-kept-bench}
@@ -114,7 +113,7 @@ echo-sized w g taps left right ram input slot h = chosen (λ (e : EchoLane). len
 pub tick-on : (w : Work) (foundPcm foundSheet : List ℕ) (start : Bench) (i : ℕ) (pcm sheet : List ℕ) (parts : Parts) (ram : List ℕ) (h : Globals) (c : Shared)
     (lanes : List ℕ) (voices : List Voice) (delays bytes : List ℕ) (acc : Sums) (a b o u : ℕ) (x : EchoLane) (pair : List ℕ)
     → Driven w foundPcm foundSheet start i pcm sheet parts ram
-    → h ≡ globalsTick (parts .globals) → c ≡ sharedFrom (parts .globals) (h .noise) (getD (parts .registers) 0x5C 0) (getD (parts .registers) 0x5D 0)
+    → h ≡ globalsTick (parts .globals) → c ≡ sharedOf (parts .globals) (parts .registers)
     → Lanes (w .voices) c ram sheet (i * 36) (startOf parts) 8 lanes voices delays bytes acc
     → a ≡ i * 36 + 32 → b ≡ a + 4 → length (midOf a (b - a) lanes) ≡ 4
     → x ≡ echoLane (w .echo) h (parts .taps) (parts .left) (parts .right) ram (acc .input) (midOf a (b - a) lanes)

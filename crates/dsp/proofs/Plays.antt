@@ -14,7 +14,8 @@ use Rattle.dsp.specs.Machine.{noVoice}
 use Rattle.dsp.specs.With.{withEnvelope}
 use Rattle.dsp.specs.Fit.{FitAdsr, FitBrr, FitVoice}
 use Rattle.dsp.specs.Envelope.{envelopeTick}
-use Rattle.dsp.specs.Brr.{wordAt, DecodedBlock, decodeBlock}
+use Rattle.dsp.specs.Ram.{wordAt}
+use Rattle.dsp.specs.Brr.{DecodedBlock, decodeBlock}
 use Rattle.dsp.specs.Voice.{Sounding, PitchSource, samplesTaken, blockOf, placed, decodedAt, nextAddress, nextBlock, resolved, pushed, pushedNext, lastOf, takeOne, consume, idle, advanced, interpolated, Stepped, shown, sounded, voiceStep}
 use Rattle.dsp.specs.declared.voice.Voice.{Voice}
 use Rattle.dsp.proofs.Fits.{voice-fit, adsr-fit, brr-fit}

@@ -6,7 +6,8 @@ use Rattle.numbers.specs.Choice.{_=?_}
 use Rattle.numbers.proofs.Choice.{chosen}
 use Rattle.dsp.specs.With.{withPosition}
 use Rattle.dsp.specs.Keys.{silenced}
-use Rattle.dsp.specs.Brr.{wordAt, DecodedBlock, decodeBlock}
+use Rattle.dsp.specs.Ram.{wordAt}
+use Rattle.dsp.specs.Brr.{DecodedBlock, decodeBlock}
 use Rattle.dsp.specs.Voice.{Sounding, PitchSource, positionOf, samplesTaken, filled, placed, decodedAt, nextAddress, nextBlock, resolved, pushed, pushedNext, lastOf, takeOne, consume, advanced}
 use Rattle.dsp.specs.declared.voice.Voice.{Voice}
 use Rattle.dsp.proofs.Pitch.{position-le}

@@ -13,14 +13,14 @@ use Rattle.numbers.specs.Listed.{turns}
 use Rattle.dsp.specs.Machine.{noVoice, apart, together, Globals}
 use Rattle.dsp.specs.Fit.{delayRule, Facts, FitVoice, FitGlobals, Fit}
 use Rattle.dsp.specs.Keys.{silenced}
+use Rattle.dsp.specs.Ram.{storedFrom}
 use Rattle.dsp.specs.Registers.{resets, writeParts, writeAt}
 use Rattle.dsp.specs.Mix.{Stereo}
 use Rattle.dsp.specs.Sheet.{pairBytes, laneAt}
-use Rattle.dsp.specs.Echo.{echoBase, storedFrom, EchoLane, echoTick, echoWritten, echoFrom, echoLane}
+use Rattle.dsp.specs.Echo.{echoBase, EchoLane, echoTick, echoWritten, echoFrom, echoLane}
 use Rattle.dsp.specs.Lane.{Cell, ownCell, shownCell, putBytes, turned, Shared}
 use Rattle.dsp.specs.Tick.{Round, turn, voicesTick, globalsTick, sharedOf, mixed, tickOf, startOf}
 use Rattle.dsp.specs.Ticks.{Bench, onward, benchTick, benchWrite, ticksOf}
-use Rattle.dsp.specs.Inside.{sharedFrom}
 use Rattle.dsp.specs.declared.voice.Voice.{Voice}
 use Rattle.dsp.specs.declared.registers.Dsp.{Dsp}
 use Rattle.dsp.specs.declared.tick.Work.{Work}
@@ -99,15 +99,14 @@ pub record BenchFit (b : Bench) : Type 0 where
 
 -- the parts of a tick make it
 pub glued : (w : Work) (b : Bench) (h : Globals) (c : Shared) (r : Round) (e : EchoLane) → h ≡ globalsTick (b .parts .globals)
-    → c ≡ sharedFrom (b .parts .globals) (h .noise) (getD (b .parts .registers) 0x5C 0) (getD (b .parts .registers) 0x5D 0)
+    → c ≡ sharedOf (b .parts .globals) (b .parts .registers)
     → r ≡ turns (turn (w .voices) (b .old) c (b .ram)) 8 (startOf (b .parts))
     → e ≡ echoLane (w .echo) h (b .parts .taps) (b .parts .left) (b .parts .right) (b .ram) (r .sums .input) (laneAt 8 (b .old))
     → onward b (mixed (b .parts .taps) r e) ≡ benchTick w b
-unfolding benchTick tickOf voicesTick globalsTick
+unfolding benchTick tickOf voicesTick
 glued w b h c r e eh ec er ee =
     let p = b .parts in
-    let ec′ = ec ∙ (λ i. sharedFrom (p .globals) (eh i .noise) (getD (p .registers) 0x5C 0) (getD (p .registers) 0x5D 0)) in
-    let er′ = er ∙ (λ i. turns (turn (w .voices) (b .old) (ec′ i) (b .ram)) 8 (startOf p)) in
+    let er′ = er ∙ (λ i. turns (turn (w .voices) (b .old) (ec i) (b .ram)) 8 (startOf p)) in
     let ee′ = ee ∙ (λ i. echoLane (w .echo) (eh i) (p .taps) (p .left) (p .right) (b .ram) (er′ i .sums .input) (laneAt 8 (b .old))) in
     λ i. onward b (mixed (p .taps) (er′ i) (ee′ i))
 

@@ -1,30 +1,13 @@
--- BRR: bytes of RAM at addresses that wrap, the directory of samples, and the 16 samples of a block.
+-- BRR: a block, which is a header and eight bytes, and its 16 samples.
 use mathlib.Core.Bool.{Bool}
 use mathlib.Core.List.{List}
-use Prim.Native.Nat.{ℕ, zero, suc, _+_, _*_, _/_, _%_}
+use Prim.Native.Nat.{ℕ, zero, suc, _+_, _/_, _%_}
 use lib.IntN.{ℤ, pos}
-use lib.ListN.{getD}
 use Rattle.numbers.specs.Listed.{listed}
 use Rattle.numbers.specs.Choice.{if_then_else_, _=?_}
-use Rattle.numbers.specs.Unsigned.{wrapped}
+use Rattle.dsp.specs.Ram.{byteAt}
 -- what the public decode_brr_nibble gives
 pub use Rattle.sound.specs.Brr.{decodeNibble}
-
--- ---- RAM
-
--- every byte address in RAM wraps at 65,536
-unfoldable pub byteAt : List ℕ → ℕ → ℕ
-byteAt ram a = getD ram (wrapped a) 0
-
--- 16 bits, low byte first
-unfoldable pub wordAt : List ℕ → ℕ → ℕ
-wordAt ram a = byteAt ram a + 0x100 * byteAt ram (a + 1)
-
--- the directory entry of a source: DIR · 256 + SRCN · 4; start address, then loop address
-abbrev pub entryOf : ℕ → ℕ → ℕ
-entryOf dir srcn = dir * 0x100 + srcn * 4
-
--- ---- a block: a header and eight bytes
 
 -- header: shift bits 7-4, filter 3-2, loop 1, end 0
 abbrev pub shiftOf : ℕ → ℕ

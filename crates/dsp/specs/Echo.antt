@@ -1,16 +1,15 @@
 -- The echo: the pair at its pointer goes through the filter, and back into RAM with feedback.
 use mathlib.Core.Bool.{Bool}
-use mathlib.Core.List.{List, [], _∷_}
+use mathlib.Core.List.{List}
 use Prim.Native.Nat.{ℕ, _+_, _*_}
 use lib.IntN.{ℤ}
-use lib.ListN.{getD, set}
+use lib.ListN.{getD}
 use Rattle.numbers.specs.Choice.{if_then_else_, _≤?_, _=?_}
 use Rattle.numbers.specs.Signed.{_>>_}
-use Rattle.numbers.specs.Unsigned.{wrapped}
 use Rattle.numbers.specs.Bits.{bit}
 use Rattle.numbers.specs.Listed.{movedOn}
 use Rattle.sound.specs.Sound.{joined, fedBack, firOf}
-use Rattle.dsp.specs.Brr.{byteAt}
+use Rattle.dsp.specs.Ram.{byteAt, storedFrom}
 use Rattle.dsp.specs.Machine.{Globals}
 use Rattle.dsp.specs.With.{withEcho}
 use Rattle.dsp.specs.Mix.{Stereo}
@@ -22,11 +21,6 @@ echoBase g = g .esa * 0x100 + g .«echo_ptr»
 
 unfoldable pub echoRead : Globals → List ℕ → ℕ → ℤ
 echoRead g ram k = joined (byteAt ram (echoBase g + k)) (byteAt ram (echoBase g + (k + 1)))
-
--- bytes stored one behind another from an address on
-unfoldable pub storedFrom : ℕ → List ℕ → List ℕ → List ℕ
-storedFrom a [] ram = ram
-storedFrom a (x ∷ xs) ram = storedFrom (a + 1) xs (set ram (wrapped a) x)
 
 -- with FLG bit 5 clear four bytes are written; else none
 unfoldable pub echoWritten : Globals → List ℕ → ℤ → ℤ → List ℕ

@@ -4,15 +4,13 @@ use mathlib.Core.Bool.{Bool}
 use mathlib.Core.List.{List}
 use Prim.Native.Nat.{ℕ}
 use lib.IntN.{ℤ}
-use Rattle.numbers.specs.Choice.{if_then_else_}
-use Rattle.dsp.specs.Noise.{Noise, noiseSample}
+use Rattle.dsp.specs.Noise.{Noise}
 use Rattle.dsp.specs.Machine.{Globals, together}
 use Rattle.dsp.specs.With.{moved}
 use Rattle.dsp.specs.Brr.{DecodedBlock}
 use Rattle.dsp.specs.Voice.{Sounding, PitchSource, plain, modulatedBy}
 use Rattle.dsp.specs.Mix.{Stereo}
 use Rattle.dsp.specs.Lane.{Shared, Cell, Sums}
-use Rattle.dsp.specs.Tick.{polls, konNow}
 use Rattle.dsp.specs.declared.adsr.Adsr.{Adsr}
 use Rattle.dsp.specs.declared.adsr.Envelope.{Envelope}
 use Rattle.dsp.specs.declared.adsr.Settings.{Settings}
@@ -149,17 +147,3 @@ withGlobals d g =
       right = d .«fir_history_r»;
       globals = g;
     })
-
--- what all voices see, of the noise as it has moved and of the KOFF and DIR bytes
-abbrev pub sharedFrom : Globals → Noise → ℕ → ℕ → Shared
-sharedFrom g noise koff dir =
-    record {
-      koff = if polls g then koff else 0;
-      kon = konNow g;
-      «dir_base» = g .«dir_base»;
-      dir = dir;
-      non = g .non;
-      pmon = g .pmon;
-      eon = g .eon;
-      noise = noiseSample noise;
-    }

@@ -7,7 +7,7 @@ use Rattle.numbers.specs.Choice.{if_then_else_}
 use Rattle.numbers.specs.Unsigned.{wrapped}
 use Rattle.dsp.specs.With.{withState, moved, withKey}
 use Rattle.dsp.specs.Envelope.{isOff}
-use Rattle.dsp.specs.Brr.{entryOf}
+use Rattle.dsp.specs.Ram.{entryOf}
 use Rattle.dsp.specs.declared.adsr.EnvelopePhase.the-variants.{Attack, Release, Off}
 use Rattle.dsp.specs.declared.voice.Voice.{Voice}
 

@@ -5,6 +5,7 @@ pub mod With
 pub mod PowerOn
 pub mod Fit
 pub mod Envelope
+pub mod Ram
 pub mod Brr
 pub mod Interpolation
 pub mod Keys

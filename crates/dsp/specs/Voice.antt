@@ -9,10 +9,11 @@ use Rattle.numbers.specs.Listed.{movedOn}
 use Rattle.numbers.specs.Signed.{natural, _>>_}
 use Rattle.numbers.specs.Unsigned.{wrapped, least}
 use Rattle.dsp.specs.With.{withEnvelope, withPosition, withSample, withBrr, withNibble}
-use Rattle.dsp.specs.Brr.{wordAt, entryOf, DecodedBlock, decodeBlock}
-use Rattle.dsp.specs.Interpolation.{interpolateZ}
 use Rattle.dsp.specs.Envelope.{isOff, envelopeTick}
 use Rattle.dsp.specs.Keys.{silenced}
+use Rattle.dsp.specs.Ram.{wordAt, entryOf}
+use Rattle.dsp.specs.Brr.{DecodedBlock, decodeBlock}
+use Rattle.dsp.specs.Interpolation.{interpolateZ}
 use Rattle.dsp.specs.declared.brr.Brr.{Brr}
 use Rattle.dsp.specs.declared.voice.Voice.{Voice}
 

@@ -4,7 +4,8 @@ ghost use Prim.Native.Nat.{_+_, _<_};
 ghost use lib.ListN.{length};
 ghost use Rattle.dsp.specs.PowerOn.{newBrr};
 ghost use Rattle.dsp.specs.Fit.{brrRule, meets};
-ghost use Rattle.dsp.specs.Brr.{byteAt, wordAt, sampleOf, decodeBlock};
+ghost use Rattle.dsp.specs.Ram.{byteAt, wordAt};
+ghost use Rattle.dsp.specs.Brr.{sampleOf, decodeBlock};
 ghost use Rattle.dsp.specs.Inside.{asDecoded};
 
 // BRR playback state of one voice.

@@ -1,15 +1,16 @@
 // The machine's tick: the record is taken apart once, driven through its ticks, and made again once.
 ghost use mathlib.Core.Path.{_≡_};
-ghost use mathlib.Core.List.{[]};
-ghost use Prim.Native.Nat.{_*_, _≤_, _<_};
-ghost use lib.ListN.{length};
+ghost use mathlib.Core.List.{List, []};
+ghost use Prim.Native.Nat.{ℕ, _*_, _≤_, _<_};
+ghost use lib.ListN.{getD, length};
 ghost use Rattle.numbers.specs.Choice.{if_then_else_};
 ghost use Rattle.sound.specs.Clock.{periods};
+ghost use Rattle.dsp.specs.Noise.{noiseTick};
 ghost use Rattle.dsp.specs.Fit.{FitGlobals, Fit, fit};
 ghost use Rattle.dsp.specs.Machine.{apart, together};
-ghost use Rattle.dsp.specs.Tick.{polls, konNow, globalsTick};
+ghost use Rattle.dsp.specs.Tick.{polls, konNow, globalsTick, sharedOf};
 ghost use Rattle.dsp.specs.Ticks.{Bench, benchOf, ticksOf, Drove, driveOf, After, stepOf};
-ghost use Rattle.dsp.specs.Inside.{asNoise, asShared, asGlobals, sharedFrom};
+ghost use Rattle.dsp.specs.Inside.{asNoise, asShared, asGlobals};
 use crate::echo::put_pair;
 use crate::lane::Acc;
 use crate::lane::Shared;
@@ -70,7 +71,7 @@ impl Glob {
     // What the voices see: the noise as it has moved, the rest as it stood before the tick.
     fn shared(self, noise: Noise, koff: u8, dir: u8) -> Shared
         requires { ⌜ noise .lfsr ≤ 0x7FFF ⌝ }
-        ensures { λ r. ⌜ asShared r ≡ sharedFrom (asGlobals self) (asNoise noise) koff dir ⌝ }
+        ensures { λ r. ⌜ ((bytes : List ℕ) → getD bytes 0x5C 0 ≡ koff → getD bytes 0x5D 0 ≡ dir → asNoise noise ≡ noiseTick (self .flg) (asNoise (self .noise)) → asShared r ≡ sharedOf (asGlobals self) bytes) ⌝ }
     {
         Shared {
             koff: self.polled_koff(koff),

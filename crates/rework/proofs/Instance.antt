@@ -14,18 +14,20 @@ use Rattle.numbers.specs.Bits.{withBit}
 use Rattle.numbers.specs.Listed.{listed, turns, folded, all}
 use Rattle.sound.specs.Clock.{periods, periodOf}
 use Rattle.sound.specs.Noise.{shifted}
+use Rattle.dsp.specs.Clock.{fires, countedOn}
 use Rattle.dsp.specs.Noise.{noiseTick}
 use Rattle.dsp.specs.Machine.{noVoice, apart}
 use Rattle.dsp.specs.PowerOn.{newDsp}
 use Rattle.dsp.specs.Fit.{fit}
 use Rattle.dsp.specs.Envelope.{attackTick, gainTick, phaseTick, envelopeTick}
 use Rattle.dsp.specs.Keys.{keyedOff, keyedOn}
-use Rattle.dsp.specs.Brr.{byteAt, wordAt, decodeBlock}
+use Rattle.dsp.specs.Ram.{byteAt, wordAt, storedFrom}
+use Rattle.dsp.specs.Brr.{decodeBlock}
 use Rattle.dsp.specs.Registers.{writeParts, writeAt, writeOf}
 use Rattle.dsp.specs.Voice.{pitchOf, positionOf, samplesTaken, filled, placed, decodedAt, nextAddress, nextBlock, resolved, pushed, takeOne, consume, advanced, interpolated, sounded, voiceStep}
 use Rattle.dsp.specs.Mix.{scaledOutput, withVoice, dryOf, masterOf, renderOf}
 use Rattle.dsp.specs.Sheet.{laneAt, pairBytes, laneBytes}
-use Rattle.dsp.specs.Echo.{echoRead, historyNow, echoNow, echoWritten, lengthNow, pointerNext, echoMoved, echoTick, echoFrom, echoLane, storedFrom}
+use Rattle.dsp.specs.Echo.{echoRead, historyNow, echoNow, echoWritten, lengthNow, pointerNext, echoMoved, echoTick, echoFrom, echoLane}
 use Rattle.dsp.specs.Lane.{waited, noised, sourceOf, polledOf, waitedOf, cellAfter, cellOf, shownCell, putBytes, added, ownCell, turned}
 use Rattle.dsp.specs.Tick.{turn, voicesTick, globalsTick, tickOf}
 use Rattle.dsp.specs.Ticks.{benchTick, ticksOf, stepOf}
@@ -37,7 +39,6 @@ use Rattle.log.specs.Log.{writeRecord, ticksRecord, readingRecord, byMark, read
 use Rattle.log.specs.Measure.{measureOf}
 use Rattle.sitting.specs.Run.{Outcome, runOf, runMeasured, runWith}
 use Rattle.sitting.specs.Play.{play, playAll}
-use Rattle.dsp.specs.Clock.{fires, countedOn}
 use Rattle.rework.specs.Members.{modesOf, quiet, joinedBy, joinedOver, members, voicesIn}
 use Rattle.rework.specs.Rework.{Left, picked, refusalOf, reworkOf}
 use Rattle.rework.specs.Refusals.{firstOf}

@@ -4,7 +4,7 @@ use mathlib.Core.Path.{_≡_, _∙_, ap}
 use Prim.Native.Nat.{_+_}
 use native.Mathlib.Omega.{arith}
 use borrow.Author.Tests.{eq-eqb, ne-eqb}
-use Rattle.dsp.specs.Brr.{wordAt}
+use Rattle.dsp.specs.Ram.{wordAt}
 use Rattle.dsp.specs.Voice.{decodedAt, resolved}
 use Rattle.dsp.specs.Inside.{asSounding}
 use Rattle.dsp.proofs.play.Play.resolved.Statement.{statement}

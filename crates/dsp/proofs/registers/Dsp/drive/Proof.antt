@@ -16,7 +16,7 @@ use Rattle.dsp.specs.Machine.{Globals, Parts, apart, noVoice}
 use Rattle.dsp.specs.Fit.{FitGlobals, Fit}
 use Rattle.dsp.specs.Sheet.{pairBytes}
 use Rattle.dsp.specs.Lane.{turned, Sums}
-use Rattle.dsp.specs.Tick.{frameOf}
+use Rattle.dsp.specs.Tick.{globalsTick, frameOf}
 use Rattle.dsp.specs.Ticks.{Bench, ticksOf}
 use Rattle.dsp.specs.Inside.{asShared, asSums, asGlobals}
 use Rattle.dsp.specs.declared.voice.Voice.{Voice}
@@ -242,6 +242,7 @@ add-i : tie.Need-add-i Inv-loop2 μ-loop2 Inv-loop μ-loop
 add-i c = let p = c .before .before .before .before .before .before .before .before .before .before .before .before .before .before .before .before .before .before .before .before .before .before .before .before .before .before .before .before .before .before .before .before .before .before .before .before .before .pre .2 in let t = c .before .before .before .before .before .before .before .before .before .before .before .before .before .before .before .before .before .before .before .before .before .before .before .loop-test .taken in record { fits = omega (arith, p, t) }
 
 loop-again : tie.Need-loop-again Inv-loop2 μ-loop2 Inv-loop μ-loop
+unfolding globalsTick
 loop-again c = let s = c .before .before .before .before .before .before .before .before .before .before .before .before .before .before .before .before .before .before .before .before .before .before .before .before .loop in
     let l = c .before .before .before .before .before .before .before .before .before .before .before .before .before .before .before .before .before .before .loop2 in
     let y = c .before .before .before .before .before .before .before .before .before .before .before .before .before .before .echo-lane .ensures in
@@ -255,7 +256,7 @@ loop-again c = let s = c .before .before .before .before .before .before .before
     let sr = landed w16 {z = c .before .before .before .before .before .before .mastered .result .r} (c .before .before .before .struct-told2 .given .1 .0 .1) in
     let f = c .before .before .put-pair .ensures ∙ (λ k. pairBytes (sl k) (sr k)) ∙ ap frameOf (c .before .before .before .before .before .before .mastered .ensures) in
     let t : s .i < c .before .before .before .before .before .before .before .before .before .before .before .before .before .before .before .before .before .before .before .before .before .before .before .before .before .before .before .before .before .before .before .before .before .before .before .before .before .args .n = c .before .before .before .before .before .before .before .before .before .before .before .before .before .before .before .before .before .before .before .before .before .before .before .loop-test .taken in
-    (omega (arith, t), tick-on _ _ _ (first (c .before .before .before .before .before .before .before .before .before .before .before .before .before .before .before .before .before .before .before .before .before .before .before .before .before)) (s .i) (s .pcm) (s .sheet) _ (s .ram) _ _ (l .sheet) (l .voices) (l .delays) (l .bytes) (asSums (l .acc)) a (a + 4) o (o + 4) (y 0) _ (s .inv .1) (c .before .before .before .before .before .before .before .before .before .before .before .before .before .before .before .before .before .before .before .before .before .ticked .ensures) (c .before .before .before .before .before .before .before .before .before .before .before .before .before .before .before .before .before .before .before .before .shared .ensures) z refl refl (m ∙ omega arith) y refl refl f)
+    (omega (arith, t), tick-on _ _ _ (first (c .before .before .before .before .before .before .before .before .before .before .before .before .before .before .before .before .before .before .before .before .before .before .before .before .before)) (s .i) (s .pcm) (s .sheet) _ (s .ram) _ _ (l .sheet) (l .voices) (l .delays) (l .bytes) (asSums (l .acc)) a (a + 4) o (o + 4) (y 0) _ (s .inv .1) (c .before .before .before .before .before .before .before .before .before .before .before .before .before .before .before .before .before .before .before .before .before .ticked .ensures) (c .before .before .before .before .before .before .before .before .before .before .before .before .before .before .before .before .before .before .before .before .shared .ensures (s .bytes) refl refl (ap (λ (g : Globals). g .noise) (c .before .before .before .before .before .before .before .before .before .before .before .before .before .before .before .before .before .before .before .before .before .ticked .ensures))) z refl refl (m ∙ omega arith) y refl refl f)
 
 same-length : tie.Need-same-length Inv-loop2 μ-loop2 Inv-loop μ-loop
 same-length c = c .before .before .loop .inv .1 .fit .ram ∙ sym (c .before .before .before .before .before .before .before .before .before .before .before .before .before .before .before .pre .0)

@@ -5,8 +5,9 @@ use Prim.Native.Nat.{_+_}
 use native.Mathlib.Omega.{arith}
 use lib.ListN.{length-set}
 use Rattle.numbers.specs.Unsigned.{wrapped}
+use Rattle.dsp.specs.Ram.{storedFrom}
 use Rattle.dsp.specs.Sheet.{pairBytes}
-use Rattle.dsp.specs.Echo.{echoBase, storedFrom}
+use Rattle.dsp.specs.Echo.{echoBase}
 use Rattle.dsp.specs.Inside.{asGlobals}
 use Rattle.dsp.proofs.Blocks.{wraps}
 use Rattle.dsp.proofs.registers.Glob.store_echo.Statement.{statement}
