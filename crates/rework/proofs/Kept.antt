@@ -36,7 +36,7 @@ use Rattle.dsp.proofs.Tests.{lt, _and_}
 use Rattle.dsp.proofs.Batches.{lane-part}
 use Rattle.numbers.proofs.Lists.{map-at}
 use Rattle.rework.specs.Alike.{named}
-use Rattle.rework.specs.Members.{Modes, modesAfter, joinedBy}
+use Rattle.rework.specs.Members.{Fields, modesAfter, joinedBy}
 use Rattle.rework.specs.Differ.{Outside, SameBytes, SameBut}
 use Rattle.rework.proofs.Bits.{itself, unless, joined-more, joined-closed}
 use Rattle.rework.proofs.Lanes.{lane-last}
@@ -226,7 +226,7 @@ pub rows-mono : (a b : ℕ) {xs ys : List (List ℕ)} → Within a b → Rows a 
 rows-mono a b h none = none
 rows-mono a b h (more {x = x} {y = y} s r) = more (lanes-mono a b x y h s) (rows-mono a b h r)
 
-pub joins-more : (bs : List Beat) (m : Modes) (a : ℕ) → Within a (joins bs m a)
+pub joins-more : (bs : List Beat) (m : Fields) (a : ℕ) → Within a (joins bs m a)
 unfolding joins
 joins-more [] m a j l h = h
 joins-more (put i x ∷ bs) m a j l h = joins-more bs (modesAfter i x m) a j l h
@@ -457,7 +457,7 @@ kept s (tick ∷ bs) a o₁ o₂ p q ram m h k w e t =
     let c = joins bs (modesIn (p .globals)) b in
     kept-behind c bs (keep s bs) (drop 36 o₁) (drop 36 o₂) ram x y (ram-kept everything o₁ p ram (t .0)) (ram-kept everything o₂ q ram (rw (← (e .globals)) (t .0)))
     (lanes-mono b c (x .row) (y .row) (joins-more bs (modesIn (p .globals)) b) (z .lanes))
-    (subst (λ (n : Modes). Quiet bs n → Kept (joins bs n b) ram (tape everything bs (drop 36 o₁) (x .parts) ram) (tape everything (keep s bs) (drop 36 o₂) (y .parts) ram)) (modes-tick everything o₁ p ram)
+    (subst (λ (n : Fields). Quiet bs n → Kept (joins bs n b) ram (tape everything bs (drop 36 o₁) (x .parts) ram) (tape everything (keep s bs) (drop 36 o₂) (y .parts) ram)) (modes-tick everything o₁ p ram)
     (kept s bs b (drop 36 o₁) (drop 36 o₂) (x .parts) (y .parts) ram m (sized-tick everything o₁ p ram h) (sized-tick everything o₂ q ram k) (λ j l n. joined-more pmon a j l (w j l n)) (z .parts)) (t .1))
 kept s (ask r ∷ bs) a o₁ o₂ p q ram m h k w e t =
     let z = kept s bs a o₁ o₂ p q ram m h k w e t in

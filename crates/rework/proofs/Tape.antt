@@ -18,7 +18,7 @@ use Rattle.dsp.specs.declared.tick.Work.{Work}
 use Rattle.log.specs.declared.Record.{Record}
 use Rattle.log.specs.declared.Record.the-variants.{Write, Ticks, Reading}
 use Rattle.rework.specs.Alike.{named}
-use Rattle.rework.specs.Members.{Modes, modesAfter, joinedBy}
+use Rattle.rework.specs.Members.{Fields, modesAfter, joinedBy}
 use Rattle.rework.specs.Differ.{Outside, SameBut}
 
 -- ---- beats
@@ -54,18 +54,18 @@ keep s (put i x ∷ bs) =
 keep s (tick ∷ bs) = tick ∷ keep s bs
 keep s (ask r ∷ bs) = ask r ∷ keep s bs
 
-abbrev pub modesIn : Globals → Modes
+abbrev pub modesIn : Globals → Fields
 modesIn g = record { flg = g .flg; pmon = g .pmon }
 
 -- FLG bit 5 is set at every tick
-unfoldable pub Quiet : List Beat → Modes → Type 0
+unfoldable pub Quiet : List Beat → Fields → Type 0
 Quiet [] m = Unit {0}
 Quiet (put i x ∷ bs) m = Quiet bs (modesAfter i x m)
 Quiet (tick ∷ bs) m = (bit (m .flg) 5 ≡ true) × Quiet bs m
 Quiet (ask r ∷ bs) m = Quiet bs m
 
 -- the set, tick by tick
-unfoldable pub joins : List Beat → Modes → ℕ → ℕ
+unfoldable pub joins : List Beat → Fields → ℕ → ℕ
 joins [] m a = a
 joins (put i x ∷ bs) m a = joins bs (modesAfter i x m) a
 joins (tick ∷ bs) m a = joins bs m (joinedBy (m .pmon) a)

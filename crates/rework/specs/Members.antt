@@ -12,29 +12,29 @@ use Rattle.log.specs.declared.Record.the-variants.{Write, Ticks, Reading}
 
 -- ---- the two fields that decide, as the writes leave them; a tick changes neither
 
-pub record Modes : Type 0 where
+pub record Fields : Type 0 where
   pub flg : ℕ
   pub pmon : ℕ
 
-abbrev pub modesOf : Dsp → Modes
+abbrev pub modesOf : Dsp → Fields
 modesOf d = record { flg = d .flg; pmon = d .pmon }
 
-abbrev pub modesAfter : ℕ → ℕ → Modes → Modes
+abbrev pub modesAfter : ℕ → ℕ → Fields → Fields
 modesAfter r x m = record { flg = at r 0x6C x (m .flg); pmon = at r 0x2D (x / 2 * 2) (m .pmon) }
 
-abbrev pub modesBy : Record → Modes → Modes
+abbrev pub modesBy : Record → Fields → Fields
 modesBy (Write r x) m = modesAfter r x m
 modesBy (Ticks n) m = m
 modesBy (Reading r) m = m
 
 -- ---- FLG bit 5 is set at every tick
 
-abbrev pub quietIn : Record → Modes → Bool
+abbrev pub quietIn : Record → Fields → Bool
 quietIn (Write r x) m = true
 quietIn (Ticks n) m = (n =? 0) || bit (m .flg) 5
 quietIn (Reading r) m = true
 
-unfoldable pub quiet : List Record → Modes → Bool
+unfoldable pub quiet : List Record → Fields → Bool
 quiet [] m = true
 quiet (r ∷ rs) m = quietIn r m && quiet rs (modesBy r m)
 
@@ -53,12 +53,12 @@ unfoldable pub joinedOver : ℕ → ℕ → ℕ → ℕ
 joinedOver zero pmon a = a
 joinedOver (suc n) pmon a = joinedBy pmon (joinedOver n pmon a)
 
-abbrev pub joinedIn : Record → Modes → ℕ → ℕ
+abbrev pub joinedIn : Record → Fields → ℕ → ℕ
 joinedIn (Write r x) m a = a
 joinedIn (Ticks n) m a = joinedOver n (m .pmon) a
 joinedIn (Reading r) m a = a
 
-unfoldable pub members : List Record → Modes → ℕ → ℕ
+unfoldable pub members : List Record → Fields → ℕ → ℕ
 members [] m a = a
 members (r ∷ rs) m a = members rs (modesBy r m) (joinedIn r m a)
 

@@ -7,14 +7,14 @@ use native.Mathlib.Omega.{arith}
 use lib.ListN.{length}
 use Rattle.log.specs.Log.{recordsFrom, decode}
 use Rattle.log.proofs.Turn.{moved}
-use Rattle.rework.specs.Members.{Modes, quiet, members}
+use Rattle.rework.specs.Members.{Fields, quiet, members}
 use Rattle.rework.specs.declared.joining.Walked.{Walked}
 use Rattle.rework.proofs.Walks.{quiet-on, quiet-end, members-on, members-end}
 use Rattle.rework.proofs.joining.walk.Statement.{statement}
 use Rattle.rework.proofs.joining.walk.Tie as tie
 
 -- the fields as they stand
-abbrev modesIn : Walked → Modes
+abbrev modesIn : Walked → Fields
 modesIn w = record { flg = w .modes .flg; pmon = w .modes .pmon }
 
 abbrev Inv-loop : tie.InvT-loop
