@@ -17,6 +17,7 @@ use Rattle.dsp.specs.Envelope.{counted, levelled, timed, risen, settled,
 use Rattle.dsp.specs.declared.adsr.EnvelopePhase.{EnvelopePhase}
 use Rattle.dsp.specs.declared.adsr.EnvelopePhase.the-variants.{Attack, Decay, Sustain, Release, Off}
 use Rattle.dsp.specs.declared.adsr.Adsr.{Adsr}
+use Rattle.dsp.proofs.Fits.{target-most}
 
 -- ---- the clock
 
@@ -78,7 +79,7 @@ unfolding phaseTick attackTick decayTick sustainTick releaseTick
 phase-fit Attack a h = chosen FitAdsr (a .«attack_rate» =? 15) (risen-fit 1024 a h) (timed-fit (2 * a .«attack_rate» + 1) (risen 32) a (risen-fit 32) h)
 phase-fit Decay a h =
     let target = (a .«sustain_level» + 1) * 0x100 in
-    let t = h .1 .1 .1 .1 .0 in
+    let t = target-most a h in
     timed-fit (2 * a .«decay_rate» + 16) (settled target) a (settled-fit target (omega arith)) h
 phase-fit Sustain a h = timed-fit (a .«sustain_rate») faded a faded-fit h
 phase-fit Release a h = let l = h .0 in fallen-fit (a .«envelope_level» - 8) a (omega arith) h

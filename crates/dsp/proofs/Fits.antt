@@ -1,6 +1,7 @@
 -- A record is fit by the test where it is fit by the facts; the power-on record is; a register write keeps it so.
-use mathlib.Core.Bool.{Bool, true, _&&_}
+use mathlib.Core.Bool.{Bool, true}
 use mathlib.Core.List.{List, [], _∷_, _++_, map}
+use mathlib.Core.Logic.{_⊎_}
 use mathlib.Core.Path.{_≡_, refl}
 use Prim.Native.Nat.{ℕ, _/_, _%_, _≤_, _<_}
 use native.Mathlib.Omega.{arith}
@@ -46,6 +47,40 @@ facts-first (x ∷ xs) ys h = (h .0, facts-first xs ys (h .1))
 facts-second : (xs ys : List Clause) → Facts (xs ++ ys) → Facts ys
 facts-second [] ys h = h
 facts-second (x ∷ xs) ys h = facts-second xs ys (h .1)
+
+-- ---- facts by their names
+
+module _ (a : Adsr) (h : FitAdsr a) where
+  pub attack-most : a .«attack_rate» ≤ 15
+  attack-most = h .1 .1 .0
+
+  pub decay-most : a .«decay_rate» ≤ 7
+  decay-most = h .1 .1 .1 .0
+
+  pub target-most : a .«sustain_level» ≤ 7
+  target-most = h .1 .1 .1 .1 .0
+
+  pub sustain-most : a .«sustain_rate» ≤ 31
+  sustain-most = h .1 .1 .1 .1 .1 .0
+
+module _ (g : Globals) (h : FitGlobals g) where
+  pub delay-most : g .edl ≤ 15
+  delay-most = h .1 .1 .0
+
+  pub pmon-even : g .pmon % 2 ≡ 0
+  pmon-even = h .1 .1 .1 .0
+
+  pub length-pages : g .«echo_len» % 2048 ≡ 0
+  length-pages = h .1 .1 .1 .1 .0
+
+  pub length-most : g .«echo_len» ≤ 30720
+  length-most = h .1 .1 .1 .1 .1 .0
+
+  pub pointer-pairs : g .«echo_ptr» % 4 ≡ 0
+  pointer-pairs = h .1 .1 .1 .1 .1 .1 .0
+
+  pub pointer-within : (g .«echo_ptr» ≡ 0) ⊎ (g .«echo_ptr» < g .«echo_len»)
+  pointer-within = h .1 .1 .1 .1 .1 .1 .1 .0
 
 -- ---- the facts of a voice
 
@@ -100,45 +135,23 @@ new-fit = refl
 
 write-fit : (i x : ℕ) (v : Voice) → x < 256 → FitVoice v → FitVoice (writeVoice i x v)
 write-fit i x v l h =
+    let b = v .adsr in
     let a = adsr-fit v h in
     let p = h .0 in
-    voice-fit (writeVoice i x v)
-    (chosen (λ (n : ℕ). n ≤ 0x3FFF) (i =? 2) (omega arith) (chosen (λ (n : ℕ). n ≤ 0x3FFF) (i =? 3) (omega arith) p))
-    (h .1 .0) (
-      a .0,
-      (
-        a .1 .0,
-        (
-          chosen (λ (n : ℕ). n ≤ 15) (i =? 5) (omega arith) (a .1 .1 .0),
-          (
-            chosen (λ (n : ℕ). n ≤ 7) (i =? 5) (omega arith) (a .1 .1 .1 .0),
-            (
-              chosen (λ (n : ℕ). n ≤ 7) (i =? 6) (omega arith) (a .1 .1 .1 .1 .0),
-              (
-                chosen (λ (n : ℕ). n ≤ 31) (i =? 6) (omega arith) (a .1 .1 .1 .1 .1 .0),
-                tt,
-              ),
-            ),
-          ),
-        ),
-      ),
-    )
-    (brr-fit v h)
+    let w = writeVoice i x v in
+    let pitch : w .pitch ≤ 0x3FFF = chosen (λ (n : ℕ). n ≤ 0x3FFF) (i =? 2) (omega arith) (chosen (λ (n : ℕ). n ≤ 0x3FFF) (i =? 3) (omega arith) p) in
+    let attack : w .adsr .«attack_rate» ≤ 15 = chosen (λ (n : ℕ). n ≤ 15) (i =? 5) (omega arith) (attack-most b a) in
+    let decay : w .adsr .«decay_rate» ≤ 7 = chosen (λ (n : ℕ). n ≤ 7) (i =? 5) (omega arith) (decay-most b a) in
+    let target : w .adsr .«sustain_level» ≤ 7 = chosen (λ (n : ℕ). n ≤ 7) (i =? 6) (omega arith) (target-most b a) in
+    let sustain : w .adsr .«sustain_rate» ≤ 31 = chosen (λ (n : ℕ). n ≤ 31) (i =? 6) (omega arith) (sustain-most b a) in
+    voice-fit w pitch (h .1 .0) (a .0, (a .1 .0, (attack, (decay, (target, (sustain, tt)))))) (brr-fit v h)
 
 globals-write-fit : (i x : ℕ) (g : Globals) → FitGlobals g → FitGlobals (globalsAfter i x g)
-globals-write-fit i x g h = (
-  h .0,
-  (
-    h .1 .0,
-    (
-      chosen (λ (n : ℕ). n ≤ 15) (i =? 0x7D) (omega arith) (h .1 .1 .0),
-      (
-        chosen (λ (n : ℕ). n % 2 ≡ 0) (i =? 0x2D) (omega arith) (h .1 .1 .1 .0),
-        h .1 .1 .1 .1,
-      ),
-    ),
-  ),
-)
+globals-write-fit i x g h =
+    let k = globalsAfter i x g in
+    let delay : k .edl ≤ 15 = chosen (λ (n : ℕ). n ≤ 15) (i =? 0x7D) (omega arith) (delay-most g h) in
+    let even : k .pmon % 2 ≡ 0 = chosen (λ (n : ℕ). n % 2 ≡ 0) (i =? 0x2D) (omega arith) (pmon-even g h) in
+    (h .0, (h .1 .0, (delay, (even, h .1 .1 .1 .1))))
 
 abbrev pub AllFit : List Voice → Type 0
 AllFit vs = (n : ℕ) → FitVoice (getD vs n noVoice)

@@ -1,8 +1,6 @@
 -- How the contracts of inner functions read the code's structs: one function for each, into the records of the definitions. Contracts and
 -- proofs alone cite this file; no definition does, so that none moves when the inside does.
-use mathlib.Core.Bool.{Bool}
 use mathlib.Core.List.{List}
-use Prim.Native.Nat.{ℕ}
 use lib.IntN.{ℤ}
 use Rattle.dsp.specs.Noise.{Noise}
 use Rattle.dsp.specs.Machine.{Globals, together}

@@ -1,7 +1,6 @@
 -- The power-on record.
 use mathlib.Core.Bool.{false}
-use Prim.Native.Nat.{ℕ}
-use lib.IntN.{ℤ, pos}
+use lib.IntN.{pos}
 use lib.ListN.{replicate, set}
 use Rattle.dsp.specs.declared.adsr.EnvelopePhase.the-variants.{Off}
 use Rattle.dsp.specs.declared.adsr.Adsr.{Adsr}

@@ -1,6 +1,6 @@
 -- The readings that document 01 asks to be proved, as one list: what the definitions say beside what the document says. P7 names no base
 -- pitch, and is claimed of every one.
-use mathlib.Core.Bool.{true, false}
+use mathlib.Core.Bool.{true}
 use mathlib.Core.List.{List, [], _∷_, map}
 use mathlib.Core.Path.{_≡_}
 use Prim.Native.Nat.{ℕ}

@@ -24,7 +24,7 @@ use Rattle.dsp.specs.Keys.{keyedOff, keyedOn}
 use Rattle.dsp.specs.Ram.{byteAt, wordAt, storedFrom}
 use Rattle.dsp.specs.Brr.{decodeBlock}
 use Rattle.dsp.specs.Registers.{writeParts, writeAt, writeOf}
-use Rattle.dsp.specs.Voice.{pitchOf, positionOf, samplesTaken, filled, placed, decodedAt, nextAddress, nextBlock, resolved, pushed, takeOne, consume, advanced, interpolated, sounded, voiceStep}
+use Rattle.dsp.specs.Voice.{pitchOf, positionOf, samplesTaken, placed, decodedAt, nextAddress, nextBlock, resolved, pushed, takeOne, consume, advanced, interpolated, sounded, voiceStep}
 use Rattle.dsp.specs.Mix.{scaledOutput, withVoice, dryOf, masterOf, renderOf}
 use Rattle.dsp.specs.Sheet.{laneAt, pairBytes, laneBytes}
 use Rattle.dsp.specs.Echo.{echoRead, historyNow, echoNow, echoWritten, lengthNow, pointerNext, echoMoved, echoTick, echoFrom, echoLane}
