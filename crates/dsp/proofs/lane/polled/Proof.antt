@@ -24,8 +24,10 @@ returns c =
     let b = a .v .brr .«sample_buffer» in
     let koff = rw (mod-eq-of-lt (s .pre)) at (c .before .before .before .bit .ensures) in
     let kon = rw (mod-eq-of-lt (s .pre)) at (c .before .bit2 .ensures) in
-    let p = c .before .before .keyed-off .ensures (a .v) b ∙ (λ i. off (koff i) (c .before .before .before .before .play .ensures i)) in
-    c .keyed-on .ensures (a .v) b refl ∙ (λ i. on (kon i) (a .c .«dir_base») (p i))
+    let k = c .before .before .keyed-off .ensures (a .v) b in
+    let p = _∙_ {b = k 1} k (λ i. off (koff i) (c .before .before .before .before .play .ensures i)) in
+    let n = c .keyed-on .ensures (a .v) b refl in
+    _∙_ {b = n 1} n (λ i. on (kon i) (a .c .«dir_base») (p i))
 
 pub polled-spec : {M : Type 1} → statement M
 polled-spec =

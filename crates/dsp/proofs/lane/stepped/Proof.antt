@@ -39,7 +39,8 @@ returns c =
     let d = c .before .before .before .before .before .delay-of .ensures ∙ (λ i. polledDelay (kon i) (a .delay)) in
     let x = c .before .before .before .source-of .ensures ∙ ap (sourceOf (a .c .pmon) (a .j)) (toZ-ofZ w16 (a .prev) (s .fits .prev)) in
     let p = (λ i. asSounding (a .v) (c .before .before .before .before .before .before .before .polled .result) (s .pre .3 i)) ∙ c .before .before .before .before .before .before .before .polled .ensures in
-    c .before .waited .ensures (a .v) refl (sym (c .before .before .before .before .settings .ensures)) ∙ (λ i. waited (a .ram .now) (a .c .dir) (a .srcn) (x i) (a .envx) (d i) (p i))
+    let n = c .before .waited .ensures (a .v) refl (sym (c .before .before .before .before .settings .ensures)) in
+    _∙_ {a = n 0} {b = n 1} n (λ i. waited (a .ram .now) (a .c .dir) (a .srcn) (x i) (a .envx) (d i) (p i))
 
 pub stepped-spec : {M : Type 1} → statement M
 stepped-spec =

@@ -24,8 +24,8 @@ returns c v e =
     let a = c .before .before .before .before .before .before .args in
     let old = a .self .«pitch_counter» % 0x4000 / 0x1000 in
     let p = c .before .before .before .position-of .ensures v (a .samples .now) e in
-    c .before .consume .ensures v
-    ∙ (λ i. consume (a .ram .now) (a .dir) (a .srcn) (p i / 0x1000 - old) (record { voice = withPosition (asVoice v (a .self) (a .samples .now)) (p i); endx = a .self .endx }))
+    let n = c .before .consume .ensures v in
+    _∙_ {b = n 1} n (λ i. consume (a .ram .now) (a .dir) (a .srcn) (p i / 0x1000 - old) (record { voice = withPosition (asVoice v (a .self) (a .samples .now)) (p i); endx = a .self .endx }))
 
 pub advanced-spec : {M : Type 1} → statement M
 advanced-spec =

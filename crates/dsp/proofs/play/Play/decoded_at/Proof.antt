@@ -24,7 +24,7 @@ returns c v =
     let e₂ = landed w16 {z = a .self .prev2} (s .1) in
     let d = c .before .before .decode-brr-block .ensures in
     c .placed .ensures v (a .samples .now) (d 0 .samples)
-    ∙ ap (withBlock (a .at) (asSounding v (a .self) (a .samples .now))) (d ∙ (λ i. decodeBlock (a .ram .now) (a .at) (e₁ i) (e₂ i)))
+    ∙ ap (withBlock (a .at) (asSounding v (a .self) (a .samples .now))) (_∙_ {b = d 1} d (λ i. decodeBlock (a .ram .now) (a .at) (e₁ i) (e₂ i)))
 
 pub decoded-at-spec : {M : Type 1} → statement M
 decoded-at-spec =

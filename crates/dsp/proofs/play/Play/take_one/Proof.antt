@@ -21,7 +21,7 @@ unfolding takeOne
 returns c v =
     let a = c .before .before .before .before .before .before .before .before .before .args in
     let h = is-pushed (c .before .before .before .before .before) v in
-    rw (eq-eqb _ _ (c .before .before .before .if1 .taken)) (c .before .next-block .ensures v ∙ ap (nextBlock (a .ram .now) (a .dir) (a .srcn)) h)
+    rw (eq-eqb _ _ (c .before .before .before .if1 .taken)) (let n = c .before .next-block .ensures v in _∙_ {b = n 1} n (ap (nextBlock (a .ram .now) (a .dir) (a .srcn)) h))
 
 returns-2 : tie.Need-returns-2
 unfolding takeOne

@@ -20,7 +20,7 @@ returns : tie.Need-returns
 unfolding waited
 returns c v p e =
     let t = c .before .before .step .ensures v p e in
-    rw (eq-eqb _ _ (c .before .before .before .before .if1 .taken)) (let-step v (t 0 .sounding .voice .brr .«sample_buffer») (c .let-step .ensures) ∙ ap letStep {x = t 0} t)
+    rw (eq-eqb _ _ (c .before .before .before .before .if1 .taken)) (let-step v (t 0 .sounding .voice .brr .«sample_buffer») (c .let-step .ensures) ∙ ap letStep {x = t 0} {y = t 1} t)
 
 returns-2 : tie.Need-returns-2
 unfolding waited
