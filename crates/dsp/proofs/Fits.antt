@@ -10,7 +10,7 @@ use Rattle.numbers.specs.Choice.{_<?_, _=?_}
 use Rattle.numbers.specs.Listed.{all}
 use Rattle.numbers.proofs.Choice.{chosen}
 use Rattle.numbers.proofs.Turns.{set-keeps}
-use Rattle.numbers.proofs.Lists.{all-at, all-holds, map-keeps}
+use Rattle.numbers.proofs.Lists.{map-both, all-at, all-holds}
 use Rattle.dsp.specs.Machine.{Globals, noVoice, globalsOf}
 use Rattle.dsp.specs.PowerOn.{newDsp}
 use Rattle.dsp.specs.Fit.{Clause, _at-most_, _below_, _is_, _multiple-of_, _or_, adsrRule, brrRule, voiceRule, delayRule, globalsRule, test, meets, fit, Fact, Facts, FitAdsr, FitBrr, FitVoice, FitGlobals, Fit}
@@ -163,7 +163,7 @@ pub silenced-fit : (v : Voice) → FitVoice v → FitVoice (silenced v)
 silenced-fit v h = (h .0, (h .1 .0, (omega arith, h .1 .1 .1)))
 
 silence-fit : (vs : List Voice) → AllFit vs → AllFit (map silenced vs)
-silence-fit vs h = map-keeps FitVoice silenced noVoice no-voice-fit silenced-fit vs h
+silence-fit vs h n = map-both (λ (v w : Voice). FitVoice v) silenced noVoice (λ v w k. silenced-fit v k) vs vs refl n (h n)
 
 pub fit-kept-write : (i x : ℕ) (d : Dsp) → i < 128 → x < 256 → Fit d → Fit (writeAt i x d)
 unfolding writeAt writeParts

@@ -8,10 +8,14 @@ use lib.ListN.{getD, length, take, drop}
 use lib.Seq.{take-suc, take-all}
 use Rattle.numbers.specs.Listed.{listed, all}
 
-pub map-at : {A B : Type 0} (f : A → B) (d : A) (e : B) (xs : List A) (n : ℕ) → n < length xs → getD (map f xs) n e ≡ f (getD xs n d)
-map-at f d e [] n l = absurd (omega arith)
-map-at f d e (x ∷ xs) zero l = refl
-map-at f d e (x ∷ xs) (suc n) l = map-at f d e xs n (omega arith)
+-- two lists of one length, each mapped by f: what f keeps of two elements
+pub map-both : {A : Type 0} (R : A → A → Type 0) (f : A → A) (d : A) → ((x y : A) → R x y → R (f x) (f y)) → (xs ys : List A) → length xs ≡ length ys
+    → (j : ℕ) → R (getD xs j d) (getD ys j d) → R (getD (map f xs) j d) (getD (map f ys) j d)
+map-both R f d k [] [] e j h = h
+map-both R f d k [] (y ∷ ys) e j h = absurd (omega arith)
+map-both R f d k (x ∷ xs) [] e j h = absurd (omega arith)
+map-both R f d k (x ∷ xs) (y ∷ ys) e zero h = k x y h
+map-both R f d k (x ∷ xs) (y ∷ ys) e (suc j) h = map-both R f d k xs ys (omega arith) j h
 
 -- ---- every element passes
 
@@ -31,10 +35,6 @@ unfolding all
 all-holds t d [] h = refl
 all-holds t d (x ∷ xs) h = rw (h 0 (omega arith)) (all-holds t d xs (λ n l. h (suc n) (omega arith)))
 
-pub all-none : {A : Type 0} (t : A → Bool) (xs : List A) → all t (take 0 xs) ≡ true
-unfolding all
-all-none t xs = refl
-
 -- one element more
 pub all-more : {A : Type 0} (t : A → Bool) (d : A) (xs : List A) (n : ℕ) → n < length xs → all t (take (suc n) xs) ≡ (all t (take n xs) && t (getD xs n d))
 unfolding all
@@ -52,9 +52,3 @@ listed-take {A} d xs (suc n) l = ap (λ (ys : List A). ys ++ (getD xs n d ∷ []
 pub dropped-listed : {A : Type 0} (d : A) (h : List A) (n : ℕ) → length h ≡ suc n → drop 1 h ≡ listed (λ k. getD h (suc k) d) n
 dropped-listed d [] n e = absurd (omega arith)
 dropped-listed d (x ∷ xs) n e = sym (listed-take d xs n (omega arith) ∙ take-all n xs (omega arith))
-
--- what each element and what lies past the end have in common, where f keeps it
-pub map-keeps : {A : Type 0} (P : A → Type 0) (f : A → A) (d : A) → P d → ((a : A) → P a → P (f a)) → (xs : List A) → ((n : ℕ) → P (getD xs n d)) → (n : ℕ) → P (getD (map f xs) n d)
-map-keeps P f d p k [] h n = p
-map-keeps P f d p k (x ∷ xs) h zero = k x (h zero)
-map-keeps P f d p k (x ∷ xs) h (suc n) = map-keeps P f d p k xs (λ m. h (suc m)) n

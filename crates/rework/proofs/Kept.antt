@@ -13,7 +13,7 @@ use lib.ListN.{getD, set, drop, length, length-set, length-append, length-map}
 use lib.Seq.{getD-set-same, getD-set-other, set-getD}
 use Rattle.numbers.specs.Choice.{if_then_else_, _<?_, _=?_}
 use Rattle.numbers.specs.Signed.{highZ}
-use Rattle.numbers.proofs.Choice.{tested, chosen}
+use Rattle.numbers.proofs.Choice.{tested, chosen, chosen-both}
 use Rattle.numbers.specs.Bits.{bit, withBit}
 use Rattle.numbers.proofs.Bits.{bit-here, bit-there}
 use Rattle.sound.specs.Sound.{even}
@@ -34,7 +34,7 @@ use Rattle.dsp.proofs.Whole.{full}
 use Rattle.numbers.proofs.Turns.{turns-keep}
 use Rattle.dsp.proofs.Tests.{lt, _and_}
 use Rattle.dsp.proofs.Batches.{lane-part}
-use Rattle.numbers.proofs.Lists.{map-at}
+use Rattle.numbers.proofs.Lists.{map-both}
 use Rattle.rework.specs.Alike.{named}
 use Rattle.rework.specs.Members.{Fields, modesAfter, joinedBy}
 use Rattle.rework.specs.Differ.{Outside, SameBytes, SameBut}
@@ -88,11 +88,6 @@ unfolding turns
 turns-both R f g k h zero a b l p = p
 turns-both R f g k h (suc n) a b l p = h n (turns f n a) (turns g n b) (omega arith) (turns-both R f g k h n a b (omega arith) p)
 
--- one test on both sides
-chosen-both : {A : Type 0} (R : A → A → Type 0) (b : Bool) {x y v w : A} → R x v → R y w → R (if b then x else y) (if b then v else w)
-chosen-both R true p q = p
-chosen-both R false p q = q
-
 -- stores at n into two lists, seen at j
 stored : {A B : Type 0} (f : A → B) (d : A) (xs ys : List A) (n j : ℕ) (v w : A) → n < length xs → n < length ys → (j ≡ n → f v ≡ f w) → f (getD xs j d) ≡ f (getD ys j d)
     → f (getD (set xs n v) j d) ≡ f (getD (set ys n w) j d)
@@ -110,8 +105,7 @@ same-set : {A : Type 0} (a : ℕ) (d : A) (xs ys : List A) (n : ℕ) (v w : A) �
 same-set a d xs ys n v w l m b h s = λ j k o. stored (λ z. z) d xs ys n j v w (omega arith) (omega arith) (λ e. h (rw e at o)) (s j k o)
 
 silence-same : (a : ℕ) (vs ws : List Voice) → length vs ≡ 8 → length ws ≡ 8 → SameAt a noVoice vs ws → SameAt a noVoice (map silenced vs) (map silenced ws)
-silence-same a vs ws l m s j b o =
-    map-at silenced noVoice noVoice vs j (omega arith) ∙ ap silenced (s j b o) ∙ sym (map-at silenced noVoice noVoice ws j (omega arith))
+silence-same a vs ws l m s j b o = map-both _≡_ silenced noVoice (λ v w e. ap silenced e) vs ws (omega arith) j (s j b o)
 
 -- bytes that may be stored at m on the two sides
 record Storable (a m v w : ℕ) : Type 0 where

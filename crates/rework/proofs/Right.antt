@@ -8,7 +8,8 @@ use lib.IntN.{ℤ, pos}
 use lib.ListN.{getD, set, drop, replicate, length, length-set, length-append, length-replicate, length-map}
 use Rattle.numbers.specs.Choice.{if_then_else_, _<?_, _=?_}
 use Rattle.numbers.specs.Signed.{cutZ}
-use Rattle.numbers.proofs.Choice.{chosen}
+use Rattle.numbers.proofs.Choice.{chosen, chosen-both}
+use Rattle.numbers.proofs.Lists.{map-both}
 use Rattle.numbers.specs.Bits.{bit}
 use Rattle.sound.specs.Sound.{joined}
 use Rattle.numbers.specs.Listed.{turns}
@@ -41,11 +42,6 @@ use Rattle.rework.proofs.Tape.{Beat, put, tick, ask, Small, Quiet, mode
 
 -- ---- two lists side by side
 
--- what two choices by one test have in common
-chosen-both : {A : Type 0} (R : A → A → Type 0) (b : Bool) {x y u v : A} → R x u → R y v → R (if b then x else y) (if b then u else v)
-chosen-both R true p q = p
-chosen-both R false p q = q
-
 -- after a store into both at n
 set-both : {A : Type 0} (R : A → A → Type 0) (d : A) (xs ys : List A) (n : ℕ) (x y : A) → length xs ≡ length ys
     → (m : ℕ) → (m ≡ n → R x y) → R (getD xs m d) (getD ys m d) → R (getD (set xs n x) m d) (getD (set ys n y) m d)
@@ -56,13 +52,6 @@ set-both R d (v ∷ xs) (w ∷ ys) zero x y e zero p h = p refl
 set-both R d (v ∷ xs) (w ∷ ys) zero x y e (suc m) p h = h
 set-both R d (v ∷ xs) (w ∷ ys) (suc n) x y e zero p h = h
 set-both R d (v ∷ xs) (w ∷ ys) (suc n) x y e (suc m) p h = set-both R d xs ys n x y (omega arith) m (λ q. p (ap suc q)) h
-
--- through turns of both
-turns-both : {A : Type 0} (R : A → A → Type 0) (f : ℕ → A → A) (k : ℕ) → ((n : ℕ) (x y : A) → n < k → R x y → R (f n x) (f n y))
-    → (n : ℕ) (x y : A) → n ≤ k → R x y → R (turns f n x) (turns f n y)
-unfolding turns
-turns-both R f k h zero x y l p = p
-turns-both R f k h (suc n) x y l p = h n (turns f n x) (turns f n y) (omega arith) (turns-both R f k h n x y (omega arith) p)
 
 -- the voices of a rework and of the run: the same in the set, and with the same volumes everywhere
 record Beside (a : ℕ) (vs ws : List Voice) : Type 0 where
@@ -83,22 +72,13 @@ beside-set a n vs ws v w h e l r =
 
 -- ---- a register write
 
--- what each of two lists of voices shows where both are silenced
-silenced-both : (R : Voice → Voice → Type 0) → ((v w : Voice) → R v w → R (silenced v) (silenced w)) → (vs ws : List Voice) → length vs ≡ length ws
-    → (j : ℕ) → R (getD vs j noVoice) (getD ws j noVoice) → R (getD (map silenced vs) j noVoice) (getD (map silenced ws) j noVoice)
-silenced-both R f [] [] e j h = h
-silenced-both R f [] (w ∷ ws) e j h = absurd (omega arith)
-silenced-both R f (v ∷ vs) [] e j h = absurd (omega arith)
-silenced-both R f (v ∷ vs) (w ∷ ws) e zero h = f v w h
-silenced-both R f (v ∷ vs) (w ∷ ws) e (suc j) h = silenced-both R f vs ws (omega arith) j h
-
 beside-silenced : (a : ℕ) (vs ws : List Voice) → Beside a vs ws → Beside a (map silenced vs) (map silenced ws)
 beside-silenced a vs ws h =
     record {
       count = length-map vs silenced ∙ h .count ∙ sym (length-map ws silenced);
-      voices = λ j l b. silenced-both _≡_ (λ v w e. ap silenced e) vs ws (h .count) j (h .voices j l b);
-      lefts = λ j l. silenced-both (λ (v w : Voice). v .«left_vol» ≡ w .«left_vol») (λ v w e. e) vs ws (h .count) j (h .lefts j l);
-      rights = λ j l. silenced-both (λ (v w : Voice). v .«right_vol» ≡ w .«right_vol») (λ v w e. e) vs ws (h .count) j (h .rights j l);
+      voices = λ j l b. map-both _≡_ silenced noVoice (λ v w e. ap silenced e) vs ws (h .count) j (h .voices j l b);
+      lefts = λ j l. map-both (λ (v w : Voice). v .«left_vol» ≡ w .«left_vol») silenced noVoice (λ v w e. e) vs ws (h .count) j (h .lefts j l);
+      rights = λ j l. map-both (λ (v w : Voice). v .«right_vol» ≡ w .«right_vol») silenced noVoice (λ v w e. e) vs ws (h .count) j (h .rights j l);
     }
 
 beside-write : (a i x : ℕ) (vs ws : List Voice) → i < 128 → Beside a vs ws → Beside a (voicesAfter i x vs) (voicesAfter i x ws)
@@ -296,7 +276,7 @@ good-write i x p l m g =
             fit = k .round;
             samples =
                 chosen Samples16 (i % 16 <? 8) (sample-set (p .voices) (i / 16) _ (h (i / 16) (omega arith)) h)
-                (chosen Samples16 (resets i x) (λ n b. silenced-both (λ (v w : Voice). Is16 (v .«current_sample»)) (λ v w e. e) (p .voices) (p .voices) refl n (h n b)) h);
+                (chosen Samples16 (resets i x) (λ n b. map-both (λ (v w : Voice). Is16 (v .«current_sample»)) silenced noVoice (λ v w e. e) (p .voices) (p .voices) refl n (h n b)) h);
           };
       globals = k .globals;
     }
