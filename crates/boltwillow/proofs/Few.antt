@@ -7,21 +7,21 @@ use native.Mathlib.Omega.{arith}
 use Rattle.numbers.specs.Choice.{_=?_}
 use Rattle.numbers.proofs.Choice.{chosen}
 use Rattle.numbers.specs.Bits.{bit}
-use Rattle.dsp.specs.Machine.{newDsp}
-use Rattle.dsp.specs.Registers.{turns}
+use Rattle.numbers.specs.Listed.{turns}
+use Rattle.dsp.specs.PowerOn.{newDsp}
 use Rattle.dsp.specs.declared.registers.Dsp.{Dsp}
 use Rattle.sitting.specs.Run.{runWith, runOf}
-use Rattle.rework.specs.Members.{counted, voicesIn}
+use Rattle.rework.specs.Members.{countedIn, voicesIn}
 use Rattle.rework.specs.Rework.{Left, refusalOf, setOf, only, reworkOf, reworkNewOf}
 
-counted-le : (a n : ℕ) → turns (counted a) n 0 ≤ n
+countedIn-le : (a n : ℕ) → turns (countedIn a) n 0 ≤ n
 unfolding turns
-counted-le a zero = le-refl 0
-counted-le a (suc n) = let l = counted-le a n in chosen (λ (k : ℕ). k ≤ suc n) (bit a n) (omega (arith, l)) (omega (arith, l))
+countedIn-le a zero = le-refl 0
+countedIn-le a (suc n) = let l = countedIn-le a n in chosen (λ (k : ℕ). k ≤ suc n) (bit a n) (omega (arith, l)) (omega (arith, l))
 
 voices-le : (a : ℕ) → voicesIn a ≤ 8
 unfolding voicesIn
-voices-le a = counted-le a 8
+voices-le a = countedIn-le a 8
 
 abbrev Few : Left → Type 0
 Few x = x .count ≤ 8

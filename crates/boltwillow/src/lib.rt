@@ -1,12 +1,12 @@
 // The sound chip for C: entries over numbers and byte slices. tools/c/boltwillow.h says how C calls them.
 ghost use mathlib.Core.Path.{_≡_};
 ghost use Prim.Native.Nat.{_≤_};
-ghost use Rattle.dsp.specs.Machine.{newDsp};
+ghost use Rattle.dsp.specs.PowerOn.{newDsp};
 ghost use Rattle.log.specs.Measure.{measureOf};
 ghost use Rattle.sitting.specs.Run.{runOf};
 ghost use Rattle.rework.specs.Rework.{reworkNewOf};
-ghost use Rattle.wav.specs.Wav.{Written, writeOf, framesOf, readOf};
-ghost use Rattle.boltwillow.specs.Answers.{Played, playedOf, Reworked, reworkedOf, framesAnswer, Restored, restoredOf};
+ghost use Rattle.wav.specs.Wav.{Filed, filedOf, framesOf, readOf};
+ghost use Rattle.boltwillow.specs.Answers.{PlayedOut, playedOf, Reworked, reworkedOf, framesAnswer, ReadOut, restoredOf};
 use log::measure;
 use rework::rework_new;
 use sitting::run_new;
@@ -51,7 +51,7 @@ pub extern "C" fn bw_run(
     sheet: &mut [u8],
     readings: &mut [u8],
 ) -> u8
-    ensures { λ r. ⌜ _≡_ {A = Played} (record { refusal = r; ram = now (ram .exit); pcm = now (pcm .exit); sheet = now (sheet .exit); readings = now (readings .exit) }) (playedOf (runOf newDsp (now (ram .entry)) (now (log .entry)) (now (pcm .entry)) (now (sheet .entry)) (now (readings .entry)))) ⌝ }
+    ensures { λ r. ⌜ _≡_ {A = PlayedOut} (record { refusal = r; ram = now (ram .exit); pcm = now (pcm .exit); sheet = now (sheet .exit); readings = now (readings .exit) }) (playedOf (runOf newDsp (now (ram .entry)) (now (log .entry)) (now (pcm .entry)) (now (sheet .entry)) (now (readings .entry)))) ⌝ }
 {
     let r = run_new(ram, log, pcm, sheet, readings);
     r.refusal
@@ -78,7 +78,7 @@ pub extern "C" fn bw_rework(
 // A sound's file: 44 bytes, then the samples. 0, or the refusal: 10.
 #[no_mangle]
 pub extern "C" fn bw_write_wav(pcm: &[u8], file: &mut [u8]) -> u8
-    ensures { λ r. ⌜ _≡_ {A = Written} (record { refusal = r; file = now (file .exit) }) (writeOf (now (pcm .entry)) (now (file .entry))) ⌝ }
+    ensures { λ r. ⌜ _≡_ {A = Filed} (record { refusal = r; file = now (file .exit) }) (filedOf (now (pcm .entry)) (now (file .entry))) ⌝ }
 {
     write_wav(pcm, file)
 }
@@ -102,7 +102,7 @@ pub extern "C" fn bw_wav_frames(file: &[u8]) -> u32
 // The samples of a file of that layout. The answer's low byte is 0 or the refusal: 13, 10. Above it is the number of frames.
 #[no_mangle]
 pub extern "C" fn bw_read_wav(file: &[u8], pcm: &mut [u8]) -> u32
-    ensures { λ r. ⌜ _≡_ {A = Restored} (record { answer = r; pcm = now (pcm .exit) }) (restoredOf (readOf (now (file .entry)) (now (pcm .entry)))) ⌝ }
+    ensures { λ r. ⌜ _≡_ {A = ReadOut} (record { answer = r; pcm = now (pcm .exit) }) (restoredOf (readOf (now (file .entry)) (now (pcm .entry)))) ⌝ }
 {
     frames_answer(read_wav(file, pcm))
 }

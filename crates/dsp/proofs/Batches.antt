@@ -14,10 +14,11 @@ use Rattle.dsp.specs.Registers.{writeAt, writeOf}
 use Rattle.dsp.specs.Sheet.{laneAt}
 use Rattle.dsp.specs.Echo.{echoLane}
 use Rattle.dsp.specs.Lane.{turned}
-use Rattle.dsp.specs.Tick.{Round, landing, turn, voicesTick, globTick, sharedOf, startOf, mixed, tickOf, Bench, benchOf, onward, benchTick, ticksOf, drove, driveOf}
+use Rattle.dsp.specs.Tick.{Round, landing, turn, voicesTick, globalsTick, sharedOf, startOf, mixed, tickOf}
+use Rattle.dsp.specs.Ticks.{Bench, benchOf, onward, benchTick, ticksOf, drove, driveOf}
 use Rattle.dsp.specs.declared.registers.Dsp.{Dsp}
 use Rattle.dsp.specs.declared.tick.Work.{Work}
-use Rattle.dsp.proofs.Turns.{turns-same}
+use Rattle.numbers.proofs.Turns.{turns-same}
 use Rattle.dsp.proofs.Fits.{facts-fit}
 
 -- ---- a row of the sheet
@@ -31,12 +32,12 @@ lane-part j old rest h =
 tick-part : (w : Work) (old rest : List ℕ) (p : Parts) (ram : List ℕ) → 36 ≤ length old → tickOf w (old ++ rest) p ram ≡ tickOf w old p ram
 unfolding tickOf voicesTick turn
 tick-part w old rest p ram h =
-    let c = sharedOf (p .glob) (p .registers) in
+    let c = sharedOf (p .globals) (p .registers) in
     let same : (j : ℕ) (r : Round) → j < 8 → turn (w .voices) (old ++ rest) c ram j r ≡ turn (w .voices) old c ram j r =
-    (λ j r l. ap (λ (slot : List ℕ). landing j r (turned (bit (w .voices) j) c ram j (getD (r .voices) j noVoice) (getD (r .delays) j 0) (r .acc) (r .bytes) slot)) (lane-part j old rest (omega (arith, h, l)))) in
+    (λ j r l. ap (λ (slot : List ℕ). landing j r (turned (bit (w .voices) j) c ram j (getD (r .voices) j noVoice) (getD (r .delays) j 0) (r .sums) (r .bytes) slot)) (lane-part j old rest (omega (arith, h, l)))) in
     let r = turns-same (turn (w .voices) (old ++ rest) c ram) (turn (w .voices) old c ram) 8 same 8 (startOf p) (omega arith) in
     let e = lane-part 8 old rest (omega (arith, h)) in
-    λ i. mixed (p .taps) (r i) (echoLane (w .echo) (globTick (p .glob)) (p .taps) (p .left) (p .right) ram (r i .acc .input) (e i))
+    λ i. mixed (p .taps) (r i) (echoLane (w .echo) (globalsTick (p .globals)) (p .taps) (p .left) (p .right) ram (r i .sums .input) (e i))
 
 -- ---- a batch
 

@@ -9,7 +9,8 @@ use lib.ListN.{length, take, set, length-set}
 use lib.Seq.{take-suc-set, take-all}
 use Rattle.numbers.specs.Unsigned.{wrapped}
 use Rattle.numbers.specs.Listed.{listed}
-use Rattle.dsp.specs.Brr.{byteAt, wordAt, endOf, loopOf, nibbleAt, sampleOf, newest, Decoded, decodeBlock}
+use Rattle.dsp.specs.Ram.{byteAt, wordAt}
+use Rattle.dsp.specs.Brr.{endOf, loopOf, nibbleAt, sampleOf, newest, DecodedBlock, decodeBlock}
 
 -- an address that has wrapped before the sum
 pub wraps : (a k : ℕ) → wrapped (wrapped a + k) ≡ wrapped (a + k)
@@ -82,7 +83,7 @@ module _ (ram : List ℕ) (a : ℕ) (p1 p2 : ℤ) where
       rw (n, add-one) (one-more (suc (i * 2)) (set samples (i * 2) s₀) s₀ n1 s₁ (omega arith) v d₁)
 
   pub whole : (k : ℕ) (samples : List ℤ) (n1 n2 : ℤ) (header : ℕ) → k ≡ 16 → header ≡ byteAt ram (a + 0) → UpTo k samples n1 n2
-      → _≡_ {A = Decoded} (record { samples = samples; prev1 = n1; prev2 = n2; end = endOf header; loops = loopOf header }) (decodeBlock ram a p1 p2)
+      → _≡_ {A = DecodedBlock} (record { samples = samples; prev1 = n1; prev2 = n2; end = endOf header; loops = loopOf header }) (decodeBlock ram a p1 p2)
   unfolding decodeBlock
   whole k samples n1 n2 header e eh u =
       let z : a + 0 ≡ a = omega arith in

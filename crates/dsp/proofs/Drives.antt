@@ -13,18 +13,15 @@ use borrow.Rule.Slice.PartMut.{putMid, midOf}
 use Rattle.numbers.proofs.Choice.{chosen}
 use Rattle.numbers.proofs.Parts.{Written, written-to, rest-is, part-found, part-written, sized, written-on}
 use Rattle.numbers.specs.Bits.{bit}
-use Rattle.dsp.specs.Machine.{noVoice, Parts}
-use Rattle.dsp.specs.Registers.{turns}
-use Rattle.dsp.specs.Mix.{masterOf}
+use Rattle.numbers.specs.Listed.{turns}
+use Rattle.dsp.specs.Machine.{noVoice, Parts, Globals}
+use Rattle.dsp.specs.Mix.{masterOf, Stereo}
 use Rattle.dsp.specs.Sheet.{pairBytes, laneBytes, laneAt}
 use Rattle.dsp.specs.Echo.{EchoLane, echoLane}
-use Rattle.dsp.specs.Lane.{Landed, turned}
-use Rattle.dsp.specs.Tick.{Round, landing, turn, globTick, sharedFrom, startOf, frameOf, partsAfter, mixed, Bench, onward, benchTick, ticksOf}
+use Rattle.dsp.specs.Lane.{Landed, turned, Shared, Sums}
+use Rattle.dsp.specs.Tick.{Round, landing, turn, globalsTick, startOf, frameOf, partsAfter, mixed, sharedOf}
+use Rattle.dsp.specs.Ticks.{Bench, onward, benchTick, ticksOf}
 use Rattle.dsp.specs.declared.voice.Voice.{Voice}
-use Rattle.dsp.specs.declared.lane.Shared.{Shared}
-use Rattle.dsp.specs.declared.lane.Acc.{Acc}
-use Rattle.dsp.specs.declared.mix.Stereo.{Stereo}
-use Rattle.dsp.specs.declared.registers.Glob.{Glob}
 use Rattle.dsp.specs.declared.tick.Work.{Work}
 use Rattle.dsp.proofs.Ticks.{RoundFit, BenchFit, fit-kept-turn, glued, fit-kept-bench}
 
@@ -37,18 +34,18 @@ lane-found at a b j found sheet done ea eb w =
 
 -- ---- the voices
 
-abbrev pub roundOf : List Voice → List ℕ → List ℕ → Acc → List ℕ → Round
-roundOf voices delays bytes acc row = record { voices = voices; delays = delays; bytes = bytes; acc = acc; row = row }
+abbrev pub roundOf : List Voice → List ℕ → List ℕ → Sums → List ℕ → Round
+roundOf voices delays bytes acc row = record { voices = voices; delays = delays; bytes = bytes; sums = acc; row = row }
 
 -- after v lanes of the row that begins at `at`
-pub record Lanes (mask : ℕ) (c : Shared) (ram found : List ℕ) (at : ℕ) (start : Round) (v : ℕ) (sheet : List ℕ) (voices : List Voice) (delays bytes : List ℕ) (acc : Acc) : Type 0 where
+pub record Lanes (mask : ℕ) (c : Shared) (ram found : List ℕ) (at : ℕ) (start : Round) (v : ℕ) (sheet : List ℕ) (voices : List Voice) (delays bytes : List ℕ) (acc : Sums) : Type 0 where
   pub row : List ℕ
   pub fit : RoundFit (roundOf voices delays bytes acc row)
   pub is : roundOf voices delays bytes acc row ≡ turns (turn mask (drop at found) c ram) v start
   pub lanes : Written found sheet (at + v * 4) (take at found ++ row)
 
 -- before the first
-pub lanes-first : (mask : ℕ) (c : Shared) (ram found : List ℕ) (at : ℕ) (voices : List Voice) (delays bytes : List ℕ) (acc : Acc) → at ≤ length found
+pub lanes-first : (mask : ℕ) (c : Shared) (ram found : List ℕ) (at : ℕ) (voices : List Voice) (delays bytes : List ℕ) (acc : Sums) → at ≤ length found
     → RoundFit (roundOf voices delays bytes acc []) → Lanes mask c ram found at (roundOf voices delays bytes acc []) 0 found voices delays bytes acc
 unfolding turns
 lanes-first mask c ram found at voices delays bytes acc h f =
@@ -60,16 +57,16 @@ lanes-first mask c ram found at voices delays bytes acc h f =
       lanes = subst (λ (k : ℕ). Written found found k (take at found ++ [])) n (subst (Written found found at) (sym (append-nil (take at found))) (written-to at found h));
     }
 
-slot-sized : (w : Bool) (c : Shared) (ram : List ℕ) (j : ℕ) (v : Voice) (d : ℕ) (a : Acc) (bytes slot : List ℕ) → length slot ≡ 4
+slot-sized : (w : Bool) (c : Shared) (ram : List ℕ) (j : ℕ) (v : Voice) (d : ℕ) (a : Sums) (bytes slot : List ℕ) → length slot ≡ 4
     → length (turned w c ram j v d a bytes slot .slot) ≡ 4
 unfolding turned laneBytes
 slot-sized w c ram j v d a bytes slot e = chosen (λ (l : List ℕ). length l ≡ 4) w refl e
 
 -- one lane more
-pub lane-on : (mask : ℕ) (c : Shared) (ram found : List ℕ) (at : ℕ) (start : Round) (v : ℕ) (sheet : List ℕ) (voices : List Voice) (delays bytes : List ℕ) (acc : Acc) (a b : ℕ) (x : Landed)
+pub lane-on : (mask : ℕ) (c : Shared) (ram found : List ℕ) (at : ℕ) (start : Round) (v : ℕ) (sheet : List ℕ) (voices : List Voice) (delays bytes : List ℕ) (acc : Sums) (a b : ℕ) (x : Landed)
     → Lanes mask c ram found at start v sheet voices delays bytes acc → v < 8 → a ≡ at + v * 4 → b ≡ a + 4 → length (midOf a (b - a) sheet) ≡ 4
     → x ≡ turned (bit mask v) c ram v (getD voices v noVoice) (getD delays v 0) acc bytes (midOf a (b - a) sheet)
-    → Lanes mask c ram found at start (v + 1) (putMid a (b - a) sheet (x .slot)) (set voices v (x .voice)) (set delays v (x .delay)) (x .bytes) (x .acc)
+    → Lanes mask c ram found at start (v + 1) (putMid a (b - a) sheet (x .slot)) (set voices v (x .voice)) (set delays v (x .delay)) (x .bytes) (x .sums)
 unfolding turns turn
 lane-on mask c ram found at start v sheet voices delays bytes acc a b x l lt ea eb es ex =
     let r = roundOf voices delays bytes acc (l .row) in
@@ -89,7 +86,7 @@ lane-on mask c ram found at start v sheet voices delays bytes acc a b x l lt ea 
           (subst (λ (d : List ℕ). Written found (putMid a (b - a) sheet (x .slot)) b d) (append-assoc (take at found) (l .row) (x .slot)) p);
     }
 
-pub lanes-sized : {mask : ℕ} {c : Shared} {ram found : List ℕ} {at : ℕ} {start : Round} {v : ℕ} {sheet : List ℕ} {voices : List Voice} {delays bytes : List ℕ} {acc : Acc}
+pub lanes-sized : {mask : ℕ} {c : Shared} {ram found : List ℕ} {at : ℕ} {start : Round} {v : ℕ} {sheet : List ℕ} {voices : List Voice} {delays bytes : List ℕ} {acc : Sums}
     → Lanes mask c ram found at start v sheet voices delays bytes acc → at + v * 4 ≤ length found → length sheet ≡ length found
 lanes-sized l h = sized (l .lanes) h
 
@@ -107,20 +104,20 @@ pub record Driven (w : Work) (foundPcm foundSheet : List ℕ) (start : Bench) (i
   pub put-out : Written foundPcm pcm (i * 4) samples
   pub shown : Written foundSheet sheet (i * 36) rows
 
-echo-sized : (w : Bool) (g : Glob) (taps left right : List ℤ) (ram : List ℕ) (input : Stereo) (slot : List ℕ) → length slot ≡ 4
+echo-sized : (w : Bool) (g : Globals) (taps left right : List ℤ) (ram : List ℕ) (input : Stereo) (slot : List ℕ) → length slot ≡ 4
     → length (echoLane w g taps left right ram input slot .slot) ≡ 4
 unfolding echoLane pairBytes
 echo-sized w g taps left right ram input slot h = chosen (λ (e : EchoLane). length (e .slot) ≡ 4) w refl h
 
 -- one tick more: the row's lanes, then the echo's at a, and the sample at o
-pub tick-on : (w : Work) (foundPcm foundSheet : List ℕ) (start : Bench) (i : ℕ) (pcm sheet : List ℕ) (parts : Parts) (ram : List ℕ) (h : Glob) (c : Shared)
-    (lanes : List ℕ) (voices : List Voice) (delays bytes : List ℕ) (acc : Acc) (a b o u : ℕ) (x : EchoLane) (pair : List ℕ)
+pub tick-on : (w : Work) (foundPcm foundSheet : List ℕ) (start : Bench) (i : ℕ) (pcm sheet : List ℕ) (parts : Parts) (ram : List ℕ) (h : Globals) (c : Shared)
+    (lanes : List ℕ) (voices : List Voice) (delays bytes : List ℕ) (acc : Sums) (a b o u : ℕ) (x : EchoLane) (pair : List ℕ)
     → Driven w foundPcm foundSheet start i pcm sheet parts ram
-    → h ≡ globTick (parts .glob) → c ≡ sharedFrom (parts .glob) (h .noise) (getD (parts .registers) 0x5C 0) (getD (parts .registers) 0x5D 0)
+    → h ≡ globalsTick (parts .globals) → c ≡ sharedOf (parts .globals) (parts .registers)
     → Lanes (w .voices) c ram sheet (i * 36) (startOf parts) 8 lanes voices delays bytes acc
     → a ≡ i * 36 + 32 → b ≡ a + 4 → length (midOf a (b - a) lanes) ≡ 4
     → x ≡ echoLane (w .echo) h (parts .taps) (parts .left) (parts .right) ram (acc .input) (midOf a (b - a) lanes)
-    → o ≡ i * 4 → u ≡ o + 4 → pair ≡ frameOf (masterOf (x .echo .glob) (acc .dry))
+    → o ≡ i * 4 → u ≡ o + 4 → pair ≡ frameOf (masterOf (x .echo .globals) (acc .dry))
     → Driven w foundPcm foundSheet start (i + 1) (putMid o (u - o) pcm pair) (putMid a (b - a) lanes (x .slot)) (partsAfter (parts .taps) (roundOf voices delays bytes acc []) (x .echo)) (x .echo .ram)
 unfolding ticksOf pairBytes
 tick-on w fp fs start i pcm sheet parts ram h c lanes voices delays bytes acc a b o u x pair d eh ec l ea eb es ex eo eu ep =

@@ -13,27 +13,30 @@ use mir.Val.{toZ, ofZ}
 use Rattle.numbers.specs.Choice.{_≤?_, _=?_}
 use Rattle.numbers.proofs.Range.{landed}
 use Rattle.numbers.proofs.Choice.{chosen}
-use Rattle.sound.specs.Sound.{fedBack, firOf, movedOn}
+use Rattle.numbers.specs.Listed.{movedOn}
+use Rattle.numbers.specs.Signed.{_>>_}
+use Rattle.sound.specs.Sound.{fedBack, firOf}
+use Rattle.dsp.specs.Machine.{Globals}
+use Rattle.dsp.specs.Fit.{FitGlobals}
 use Rattle.dsp.specs.Echo.{echoRead, lengthNow, pointerNext, echoMoved, historyNow, echoNow}
-use Rattle.dsp.specs.Fit.{FitGlob}
-use Rattle.dsp.specs.declared.registers.Glob.{Glob}
+use Rattle.dsp.proofs.Fits.{delay-most, pmon-even, length-pages, length-most, pointer-pairs, pointer-within}
 
-pub pointer-low : (g : Glob) → FitGlob g → g .«echo_ptr» ≤ 30720
-pointer-low g f = ⊎-elim (λ e. omega arith) (λ l. omega (arith, f .most)) (f .within)
+pub pointer-low : (g : Globals) → FitGlobals g → g .«echo_ptr» ≤ 30720
+pointer-low g f = ⊎-elim (λ e. omega arith) (λ l. omega (arith, length-most g f)) (pointer-within g f)
 
 -- ---- one side: its history h, its output y and what it feeds back, z, which the machine reads from their bits
-module _ (g : Glob) (ram : List ℕ) (taps : List ℤ) (k : ℕ) (history : List ℤ) (input : ℤ) where
+module _ (g : Globals) (ram : List ℕ) (taps : List ℤ) (k : ℕ) (history : List ℤ) (input : ℤ) where
   pub record Side (h : List ℤ) (y z : ℤ) : Type 0 where
     pub moved : h ≡ historyNow g ram k history
     pub echo : toZ w16 (ofZ w16 y) ≡ echoNow g ram k taps history
     pub fed : toZ w16 (ofZ w16 z) ≡ fedBack input (echoNow g ram k taps history) (g .efb)
 
   pub side-is : (x : ℤ) (h : List ℤ) (y z : ℤ) → mag x < 0x8000 → mag y < 0x8000 → mag z < 0x8000 → mag input < 0x8000 → mag (g .efb) < 0x80
-      → x ≡ echoRead g ram k → h ≡ movedOn history (toZ w16 (ofZ w16 x)) → y ≡ firOf h taps
+      → x ≡ echoRead g ram k → h ≡ movedOn history (toZ w16 (ofZ w16 x) >> 1) → y ≡ firOf h taps
       → z ≡ fedBack (toZ w16 (ofZ w16 input)) (toZ w16 (ofZ w16 y)) (toZ w8 (ofZ w8 (g .efb))) → Side h y z
   unfolding historyNow echoNow
   side-is x h y z hx hy hz hi he ex eh ey ez =
-      let m : h ≡ historyNow g ram k history = eh ∙ ap (movedOn history) (landed w16 hx ∙ ex) in
+      let m : h ≡ historyNow g ram k history = eh ∙ ap (λ (y : ℤ). movedOn history (y >> 1)) (landed w16 hx ∙ ex) in
       let e : toZ w16 (ofZ w16 y) ≡ echoNow g ram k taps history = landed w16 hy ∙ ey ∙ ap (λ (l : List ℤ). firOf l taps) m in
       record {
         moved = m;
@@ -43,19 +46,19 @@ module _ (g : Glob) (ram : List ℕ) (taps : List ℤ) (k : ℕ) (history : List
 
 -- ---- kept fit
 
-length-pages : (g : Glob) → FitGlob g → lengthNow g % 2048 ≡ 0
+now-pages : (g : Globals) → FitGlobals g → lengthNow g % 2048 ≡ 0
 unfolding lengthNow
-length-pages g f = chosen (λ (n : ℕ). n % 2048 ≡ 0) (g .«echo_ptr» =? 0) (omega arith) (f .pages)
+now-pages g f = chosen (λ (n : ℕ). n % 2048 ≡ 0) (g .«echo_ptr» =? 0) (omega arith) (length-pages g f)
 
-length-most : (g : Glob) → FitGlob g → lengthNow g ≤ 30720
+now-most : (g : Globals) → FitGlobals g → lengthNow g ≤ 30720
 unfolding lengthNow
-length-most g f = chosen (λ (n : ℕ). n ≤ 30720) (g .«echo_ptr» =? 0) (omega (arith, f .delay)) (f .most)
+now-most g f = chosen (λ (n : ℕ). n ≤ 30720) (g .«echo_ptr» =? 0) (omega (arith, delay-most g f)) (length-most g f)
 
-next-pairs : (g : Glob) → FitGlob g → pointerNext g % 4 ≡ 0
+next-pairs : (g : Globals) → FitGlobals g → pointerNext g % 4 ≡ 0
 unfolding pointerNext
-next-pairs g f = chosen (λ (n : ℕ). n % 4 ≡ 0) (lengthNow g ≤? g .«echo_ptr» + 4) (omega arith) (omega (arith, f .pairs))
+next-pairs g f = chosen (λ (n : ℕ). n % 4 ≡ 0) (lengthNow g ≤? g .«echo_ptr» + 4) (omega arith) (omega (arith, pointer-pairs g f))
 
-next-within : (g : Glob) → (pointerNext g ≡ 0) ⊎ (pointerNext g < lengthNow g)
+next-within : (g : Globals) → (pointerNext g ≡ 0) ⊎ (pointerNext g < lengthNow g)
 unfolding pointerNext
 next-within g =
     elim (decLe (lengthNow g) (g .«echo_ptr» + 4)) [
@@ -63,16 +66,6 @@ next-within g =
       | no e ↦ let l : g .«echo_ptr» + 4 < lengthNow g = omega arith in rw (lt-leb _ _ l) (inr l)
     ]
 
-pub fit-kept-echo : (g : Glob) (l r : ℤ) → FitGlob g → FitGlob (echoMoved g l r)
+pub fit-kept-echo : (g : Globals) (l r : ℤ) → FitGlobals g → FitGlobals (echoMoved g l r)
 unfolding echoMoved
-fit-kept-echo g l r f =
-    record {
-      counter = f .counter;
-      lfsr = f .lfsr;
-      delay = f .delay;
-      even = f .even;
-      pages = length-pages g f;
-      most = length-most g f;
-      pairs = next-pairs g f;
-      within = next-within g;
-    }
+fit-kept-echo g l r f = (f .0, (f .1 .0, (delay-most g f, (pmon-even g f, (now-pages g f, (now-most g f, (next-pairs g f, (next-within g, tt))))))))

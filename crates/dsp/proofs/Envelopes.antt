@@ -1,104 +1,97 @@
 -- A tick keeps an envelope, and the noise, fit.
+use mathlib.Core.Bool.{not, _&&_}
 use Prim.Native.Nat.{ℕ, _+_, _-_, _*_, _/_, _%_, _≤_, _<_}
 use native.Mathlib.Omega.{arith}
-use native.Mathlib.Decide.{decLe, decLt}
-use borrow.Author.Tests.{le-leb, lt-leb, lt-ltb, le-ltb}
+use borrow.Author.Tests.{leb-false}
 use Rattle.numbers.specs.Choice.{_≤?_, _=?_}
-use Rattle.numbers.proofs.Choice.{chosen}
+use Rattle.numbers.specs.Bits.{bit}
+use Rattle.numbers.proofs.Choice.{tested, chosen}
 use Rattle.sound.specs.Clock.{periodOf}
 use Rattle.sound.specs.Envelope.{lowered, gained}
 use Rattle.sound.proofs.Bounds.{period-le, lowered-le, gained-le, shifted-le}
-use Rattle.dsp.specs.Clock.{tickDue}
-use Rattle.dsp.specs.Envelope.{FitEnvelope, FitSettings, counted, levelled, timed, risen, settled, fallenTo, faded, ramped, gains, attackTick, decayTick, sustainTick, releaseTick, gainTick, phaseTick, envelopeTick}
-use Rattle.dsp.specs.Noise.{FitNoise, noiseTick}
+use Rattle.dsp.specs.Clock.{fires, countedOn}
+use Rattle.dsp.specs.Noise.{Noise, noiseTick}
+use Rattle.dsp.specs.With.{withState}
+use Rattle.dsp.specs.Fit.{FitAdsr}
+use Rattle.dsp.specs.Envelope.{counted, levelled, timed, risen, settled, fallenTo, faded, ramped, gains, attackTick, decayTick, sustainTick, releaseTick, gainTick, phaseTick, envelopeTick}
 use Rattle.dsp.specs.declared.adsr.EnvelopePhase.{EnvelopePhase}
 use Rattle.dsp.specs.declared.adsr.EnvelopePhase.the-variants.{Attack, Decay, Sustain, Release, Off}
-use Rattle.dsp.specs.declared.adsr.Envelope.{Envelope}
-use Rattle.dsp.specs.declared.adsr.Settings.{Settings}
-use Rattle.dsp.specs.declared.adsr.Tick.{Tick}
-use Rattle.dsp.specs.declared.noise.Noise.{Noise}
+use Rattle.dsp.specs.declared.adsr.Adsr.{Adsr}
+use Rattle.dsp.proofs.Fits.{target-most}
 
 -- ---- the clock
 
-pub counter-kept : (c n : ℕ) → c ≤ 2047 → tickDue c n .counter ≤ 2047
-unfolding tickDue
+pub counter-kept : (c n : ℕ) → c ≤ 2047 → countedOn c n ≤ 2047
+unfolding countedOn fires
 counter-kept c n h =
-    let P : Tick → Type 0 = λ (t : Tick). t .counter ≤ 2047 in
+    let P : ℕ → Type 0 = λ (k : ℕ). k ≤ 2047 in
     let p = period-le n in
-    elim (decLe (periodOf n) (c + 1)) [
-      | yes e ↦ rw (le-leb _ _ e) (chosen P (periodOf n =? 0) h (omega arith))
-      | no e ↦ let l : c + 1 < periodOf n = omega arith in rw (lt-leb _ _ l) (chosen P (periodOf n =? 0) h (omega arith))
-    ]
+    tested P (not (periodOf n =? 0) && (periodOf n ≤? c + 1)) (λ e. omega arith)
+    (λ e. tested P (periodOf n =? 0) (λ z. h) (λ z. let l : c + 1 < periodOf n = leb-false _ _ (rw z at e) in omega arith))
 
--- ---- the envelope
+-- ---- the envelope: its settings stay
 
-levelled-fit : (e : Envelope) (l : ℕ) → FitEnvelope e → l ≤ 0x800 → FitEnvelope (levelled e l)
-levelled-fit e l h k = record { level = k; counter = h .counter }
+state-fit : (a : Adsr) (level : ℕ) (phase : EnvelopePhase) (counter : ℕ) → level ≤ 0x800 → counter ≤ 2047 → FitAdsr a → FitAdsr (withState a level phase counter)
+state-fit a level phase counter l c h = (l, (c, h .1 .1))
+
+levelled-fit : (a : Adsr) (l : ℕ) → FitAdsr a → l ≤ 0x800 → FitAdsr (levelled a l)
+levelled-fit a l h k = (k, h .1)
 
 -- a step that keeps fit envelopes fit does so under the clock
-timed-fit : (n : ℕ) (step : Envelope → Envelope) (e : Envelope) → ((d : Envelope) → FitEnvelope d → FitEnvelope (step d))
-    → FitEnvelope e → FitEnvelope (timed n step e)
-timed-fit n step e k h =
-    let c : FitEnvelope (counted e (tickDue (e .counter) n .counter)) = record { level = h .level; counter = counter-kept (e .counter) n (h .counter) } in
-    chosen FitEnvelope (tickDue (e .counter) n .due) (k (counted e (tickDue (e .counter) n .counter)) c) c
+timed-fit : (n : ℕ) (step : Adsr → Adsr) (a : Adsr) → ((b : Adsr) → FitAdsr b → FitAdsr (step b)) → FitAdsr a → FitAdsr (timed n step a)
+timed-fit n step a k h =
+    let b = counted a (countedOn (a .«tick_counter») n) in
+    let c = state-fit a _ (a .«envelope_phase») _ (h .0) (counter-kept (a .«tick_counter») n (h .1 .0)) h in
+    chosen FitAdsr (fires (a .«tick_counter») n) (k b c) c
 
-risen-fit : (by : ℕ) (e : Envelope) → FitEnvelope e → FitEnvelope (risen by e)
+risen-fit : (by : ℕ) (a : Adsr) → FitAdsr a → FitAdsr (risen by a)
 unfolding risen
-risen-fit by e h =
-    elim (decLe 0x7FF (e .level + by)) [
-      | yes l ↦ rw (le-leb _ _ l) (record { level = omega arith; counter = omega arith })
-      | no l ↦ let k : e .level + by < 0x7FF = omega arith in rw (lt-leb _ _ k) (levelled-fit e (e .level + by) h (omega arith))
-    ]
+risen-fit by a h =
+    tested FitAdsr (0x7FF ≤? a .«envelope_level» + by) (λ e. state-fit a 0x7FF Decay 0 (omega arith) (omega arith) h)
+    (λ e. let l : a .«envelope_level» + by < 0x7FF = leb-false _ _ e in levelled-fit a (a .«envelope_level» + by) h (omega arith))
 
-settled-fit : (target : ℕ) → target ≤ 0x800 → (e : Envelope) → FitEnvelope e → FitEnvelope (settled target e)
+settled-fit : (target : ℕ) → target ≤ 0x800 → (a : Adsr) → FitAdsr a → FitAdsr (settled target a)
 unfolding settled
-settled-fit target t e h =
-    let l = lowered-le (e .level) in
-    let k = h .level in
-    chosen FitEnvelope (lowered (e .level) ≤? target) (record { level = t; counter = omega arith }) (levelled-fit e (lowered (e .level)) h (omega arith))
+settled-fit target t a h =
+    let l = lowered-le (a .«envelope_level») in
+    let k = h .0 in
+    chosen FitAdsr (lowered (a .«envelope_level») ≤? target) (state-fit a target Sustain 0 t (omega arith) h) (levelled-fit a (lowered (a .«envelope_level»)) h (omega arith))
 
-fallen-fit : (l : ℕ) (e : Envelope) → l ≤ 0x800 → FitEnvelope e → FitEnvelope (fallenTo l e)
+fallen-fit : (l : ℕ) (a : Adsr) → l ≤ 0x800 → FitAdsr a → FitAdsr (fallenTo l a)
 unfolding fallenTo
-fallen-fit l e k h = chosen FitEnvelope (l =? 0) (record { level = omega arith; counter = h .counter }) (levelled-fit e l h k)
+fallen-fit l a k h = chosen FitAdsr (l =? 0) (state-fit a 0 Off _ (omega arith) (h .1 .0) h) (levelled-fit a l h k)
 
-faded-fit : (e : Envelope) → FitEnvelope e → FitEnvelope (faded e)
-faded-fit e h = let l = lowered-le (e .level) in let k = h .level in fallen-fit (lowered (e .level)) e (omega arith) h
+faded-fit : (a : Adsr) → FitAdsr a → FitAdsr (faded a)
+faded-fit a h = let l = lowered-le (a .«envelope_level») in let k = h .0 in fallen-fit (lowered (a .«envelope_level»)) a (omega arith) h
 
-ramped-fit : (m : ℕ) (e : Envelope) → FitEnvelope e → FitEnvelope (ramped m e)
-ramped-fit m e h = levelled-fit e (gained m (e .level)) h (gained-le m (e .level) (h .level))
+ramped-fit : (m : ℕ) (a : Adsr) → FitAdsr a → FitAdsr (ramped m a)
+ramped-fit m a h = levelled-fit a (gained m (a .«envelope_level»)) h (gained-le m (a .«envelope_level») (h .0))
 
--- a byte of GAIN
-gain-fit : (s : Settings) (e : Envelope) → FitEnvelope e → FitEnvelope (gainTick s e)
+gain-fit : (a : Adsr) → FitAdsr a → FitAdsr (gainTick a)
 unfolding gainTick
-gain-fit s e h =
-    elim (decLt (s .«gain_param») 0x80) [
-      | yes l ↦ rw (lt-ltb _ _ l) (levelled-fit e (16 * s .«gain_param») h (omega arith))
-      | no l ↦
-          let k : 0x80 ≤ s .«gain_param» = omega arith in
-          rw (le-ltb _ _ k) (timed-fit (s .«gain_param» % 32) (ramped (s .«gain_param» / 32 % 4)) e (ramped-fit (s .«gain_param» / 32 % 4)) h)
-    ]
+gain-fit a h =
+    let m = a .«gain_param» / 32 % 4 in
+    chosen FitAdsr (bit (a .«gain_param») 7) (timed-fit (a .«gain_param» % 32) (ramped m) a (ramped-fit m) h)
+    (levelled-fit a (16 * (a .«gain_param» % 128)) h (omega arith))
 
-phase-fit : (p : EnvelopePhase) (s : Settings) (e : Envelope) → FitSettings s → FitEnvelope e → FitEnvelope (phaseTick p s e)
+phase-fit : (p : EnvelopePhase) (a : Adsr) → FitAdsr a → FitAdsr (phaseTick p a)
 unfolding phaseTick attackTick decayTick sustainTick releaseTick
-phase-fit Attack s e g h =
-    chosen FitEnvelope (s .«attack_rate» =? 15) (risen-fit 1024 e h) (timed-fit (2 * s .«attack_rate» + 1) (risen 32) e (risen-fit 32) h)
-phase-fit Decay s e g h =
-    let t : (s .«sustain_level» + 1) * 0x100 ≤ 0x800 = omega (arith, g .target) in
-    timed-fit (2 * s .«decay_rate» + 16) (settled ((s .«sustain_level» + 1) * 0x100)) e (settled-fit ((s .«sustain_level» + 1) * 0x100) t) h
-phase-fit Sustain s e g h = timed-fit (s .«sustain_rate») faded e faded-fit h
-phase-fit Release s e g h = let l = h .level in fallen-fit (e .level - 8) e (omega arith) h
-phase-fit Off s e g h = h
+phase-fit Attack a h = chosen FitAdsr (a .«attack_rate» =? 15) (risen-fit 1024 a h) (timed-fit (2 * a .«attack_rate» + 1) (risen 32) a (risen-fit 32) h)
+phase-fit Decay a h =
+    let target = (a .«sustain_level» + 1) * 0x100 in
+    let t = target-most a h in
+    timed-fit (2 * a .«decay_rate» + 16) (settled target) a (settled-fit target (omega arith)) h
+phase-fit Sustain a h = timed-fit (a .«sustain_rate») faded a faded-fit h
+phase-fit Release a h = let l = h .0 in fallen-fit (a .«envelope_level» - 8) a (omega arith) h
+phase-fit Off a h = h
 
-pub fit-kept-envelope : (s : Settings) (e : Envelope) → FitSettings s → FitEnvelope e → FitEnvelope (envelopeTick s e)
+pub fit-kept-envelope : (a : Adsr) → FitAdsr a → FitAdsr (envelopeTick a)
 unfolding envelopeTick
-fit-kept-envelope s e g h = chosen FitEnvelope (gains (e .phase) s) (gain-fit s e h) (phase-fit (e .phase) s e g h)
+fit-kept-envelope a h = chosen FitAdsr (gains a) (gain-fit a h) (phase-fit (a .«envelope_phase») a h)
 
 -- ---- the noise
 
-pub fit-kept-noise : (flg : ℕ) (n : Noise) → FitNoise n → FitNoise (noiseTick flg n)
+pub fit-kept-noise : (flg : ℕ) (n : Noise) → n .lfsr ≤ 0x7FFF → n .counter ≤ 2047 → (noiseTick flg n .lfsr ≤ 0x7FFF) × (noiseTick flg n .counter ≤ 2047)
 unfolding noiseTick
-fit-kept-noise flg n h =
-    record {
-      lfsr = chosen (λ (r : ℕ). r ≤ 0x7FFF) (tickDue (n .counter) (flg % 32) .due) (shifted-le (n .lfsr) (h .lfsr)) (h .lfsr);
-      counter = counter-kept (n .counter) (flg % 32) (h .counter);
-    }
+fit-kept-noise flg n l c =
+    (chosen (λ (r : ℕ). r ≤ 0x7FFF) (fires (n .counter) (flg % 32)) (shifted-le (n .lfsr) l) l, counter-kept (n .counter) (flg % 32) c)

@@ -1,138 +1,179 @@
 -- A record is fit by the test where it is fit by the facts; the power-on record is; a register write keeps it so.
-use mathlib.Core.Bool.{true}
-use mathlib.Core.List.{List}
+use mathlib.Core.Bool.{Bool, true}
+use mathlib.Core.List.{List, [], _∷_, _++_, map}
+use mathlib.Core.Logic.{_⊎_}
 use mathlib.Core.Path.{_≡_, refl}
-use Prim.Native.Nat.{ℕ, zero, suc, _/_, _%_, _≤_, _<_}
+use Prim.Native.Nat.{ℕ, _/_, _%_, _≤_, _<_}
 use native.Mathlib.Omega.{arith}
 use lib.ListN.{getD, set}
-use borrow.Author.Needs.{needs}
-use borrow.Author.Count.{below-none, below-more}
 use Rattle.numbers.specs.Choice.{_<?_, _=?_}
+use Rattle.numbers.specs.Listed.{all}
 use Rattle.numbers.proofs.Choice.{chosen}
-use Rattle.dsp.specs.Machine.{newDsp, noVoice, globOf}
-use Rattle.dsp.specs.Fit.{fitAdsr, fitBrr, fitVoice, fitGlob, fitVoices, fit, FitAdsr, FitBrr, FitVoice, FitGlob, Fit}
-use Rattle.dsp.specs.Registers.{writeVoice, resets, silenced, silenceVoice, silenceAll, globWrite, writeParts, writeAt}
+use Rattle.numbers.proofs.Turns.{set-keeps}
+use Rattle.numbers.proofs.Lists.{map-both, all-at, all-holds}
+use Rattle.dsp.specs.Machine.{Globals, noVoice, globalsOf}
+use Rattle.dsp.specs.PowerOn.{newDsp}
+use Rattle.dsp.specs.Fit.{Clause, _at-most_, _below_, _is_, _multiple-of_, _or_, adsrRule, brrRule, voiceRule, delayRule, globalsRule, test, meets, fit, Fact, Facts, FitAdsr, FitBrr, FitVoice, FitGlobals, Fit}
+use Rattle.dsp.specs.Keys.{silenced}
+use Rattle.dsp.specs.Registers.{writeVoice, resets, globalsAfter, writeParts, writeAt}
 use Rattle.dsp.specs.declared.adsr.Adsr.{Adsr}
-use Rattle.dsp.specs.declared.brr.Brr.{Brr}
 use Rattle.dsp.specs.declared.voice.Voice.{Voice}
 use Rattle.dsp.specs.declared.registers.Dsp.{Dsp}
-use Rattle.dsp.specs.declared.registers.Glob.{Glob}
-use Rattle.dsp.proofs.Tests.{Decides, le, lt, eq, restated, _and_, _or_}
-use Rattle.dsp.proofs.Turns.{turns-keep, set-keeps}
+use Rattle.dsp.proofs.Tests.{Decides, le, lt, eq, restated, _and_, _otherwise_}
 
--- ---- the test and the facts
+-- ---- a rule decides its facts
 
-adsr-fit : (a : Adsr) → Decides (fitAdsr a) (FitAdsr a)
-adsr-fit a =
+clause : (c : Clause) → Decides (test c) (Fact c)
+clause (a at-most b) = le a b
+clause (a below b) = lt a b
+clause (a is b) = eq a b
+clause (a multiple-of b) = eq (a % b) 0
+clause (c or d) = clause c otherwise clause d
+
+pub rule : (cs : List Clause) → Decides (meets cs) (Facts cs)
+unfolding all
+rule [] = record { sound = λ e. tt; holds = λ h. refl }
+rule (c ∷ cs) = clause c and rule cs
+
+-- two rules one behind the other
+pub facts-both : (xs ys : List Clause) → Facts xs → Facts ys → Facts (xs ++ ys)
+facts-both [] ys p q = q
+facts-both (x ∷ xs) ys p q = (p .0, facts-both xs ys (p .1) q)
+
+facts-first : (xs ys : List Clause) → Facts (xs ++ ys) → Facts xs
+facts-first [] ys h = tt
+facts-first (x ∷ xs) ys h = (h .0, facts-first xs ys (h .1))
+
+facts-second : (xs ys : List Clause) → Facts (xs ++ ys) → Facts ys
+facts-second [] ys h = h
+facts-second (x ∷ xs) ys h = facts-second xs ys (h .1)
+
+-- ---- facts by their names
+
+module _ (a : Adsr) (h : FitAdsr a) where
+  pub attack-most : a .«attack_rate» ≤ 15
+  attack-most = h .1 .1 .0
+
+  pub decay-most : a .«decay_rate» ≤ 7
+  decay-most = h .1 .1 .1 .0
+
+  pub target-most : a .«sustain_level» ≤ 7
+  target-most = h .1 .1 .1 .1 .0
+
+  pub sustain-most : a .«sustain_rate» ≤ 31
+  sustain-most = h .1 .1 .1 .1 .1 .0
+
+module _ (g : Globals) (h : FitGlobals g) where
+  pub delay-most : g .edl ≤ 15
+  delay-most = h .1 .1 .0
+
+  pub pmon-even : g .pmon % 2 ≡ 0
+  pmon-even = h .1 .1 .1 .0
+
+  pub length-pages : g .«echo_len» % 2048 ≡ 0
+  length-pages = h .1 .1 .1 .1 .0
+
+  pub length-most : g .«echo_len» ≤ 30720
+  length-most = h .1 .1 .1 .1 .1 .0
+
+  pub pointer-pairs : g .«echo_ptr» % 4 ≡ 0
+  pointer-pairs = h .1 .1 .1 .1 .1 .1 .0
+
+  pub pointer-within : (g .«echo_ptr» ≡ 0) ⊎ (g .«echo_ptr» < g .«echo_len»)
+  pointer-within = h .1 .1 .1 .1 .1 .1 .1 .0
+
+-- ---- the facts of a voice
+
+pub voice-fit : (v : Voice) → v .pitch ≤ 0x3FFF → v .«pitch_counter» ≤ 0x7FFF → FitAdsr (v .adsr) → FitBrr (v .brr) → FitVoice v
+voice-fit v p q a b = (p, (q, facts-both (adsrRule (v .adsr)) (brrRule (v .brr)) a b))
+
+pub adsr-fit : (v : Voice) → FitVoice v → FitAdsr (v .adsr)
+adsr-fit v h = facts-first (adsrRule (v .adsr)) (brrRule (v .brr)) (h .1 .1)
+
+pub brr-fit : (v : Voice) → FitVoice v → FitBrr (v .brr)
+brr-fit v h = facts-second (adsrRule (v .adsr)) (brrRule (v .brr)) (h .1 .1)
+
+-- the level, which keeps an output to 16 bits
+pub level-fit : (v : Voice) → FitVoice v → v .adsr .«envelope_level» ≤ 0x800
+level-fit v h = adsr-fit v h .0
+
+pub no-voice-fit : FitVoice noVoice
+unfolding all
+no-voice-fit = rule (voiceRule noVoice) .sound refl
+
+-- ---- the facts of a record
+
+-- every element of a list, and what lies past its end
+every : {A : Type 0} (t : A → Bool) (P : A → Type 0) → ((a : A) → Decides (t a) (P a)) → (d : A) → P d → (xs : List A) → Decides (all t xs) ((n : ℕ) → P (getD xs n d))
+every t P k d p xs =
+    record {
+      sound = λ e n. k (getD xs n d) .sound (all-at t d xs e (k d .holds p) n);
+      holds = λ h. all-holds t d xs (λ n l. k (getD xs n d) .holds (h n));
+    }
+
+fit-decides : (d : Dsp) → Decides (fit d) (Fit d)
+unfolding fit
+fit-decides d =
     restated
-    (le (a .«envelope_level») 0x800 and le (a .«tick_counter») 2047 and le (a .«attack_rate») 15 and le (a .«decay_rate») 7
-    and le (a .«sustain_level») 7 and le (a .«sustain_rate») 31)
-    (λ h. search needs)
-    (λ h. search needs)
-
-brr-fit : (b : Brr) → Decides (fitBrr b) (FitBrr b)
-brr-fit b =
-    restated
-    (le (b .«nibble_idx») 15 and (eq (b .«buffer_fill») 0 or eq (b .«buffer_fill») 16))
-    (λ h. search needs)
-    (λ h. search needs)
-
-voice-fit : (v : Voice) → Decides (fitVoice v) (FitVoice v)
-voice-fit v =
-    restated
-    (le (v .pitch) 0x3FFF and le (v .«pitch_counter») 0x7FFF and adsr-fit (v .adsr) and brr-fit (v .brr))
-    (λ h. search needs)
-    (λ h. search needs)
-
-glob-fit : (g : Glob) → Decides (fitGlob g) (FitGlob g)
-glob-fit g =
-    restated
-    (le (g .noise .counter) 2047 and le (g .noise .lfsr) 0x7FFF and le (g .edl) 15 and eq (g .pmon % 2) 0 and eq (g .«echo_len» % 2048) 0
-    and le (g .«echo_len») 30720 and eq (g .«echo_ptr» % 4) 0 and (eq (g .«echo_ptr») 0 or lt (g .«echo_ptr») (g .«echo_len»)))
-    (λ h. search needs)
-    (λ h. search needs)
-
--- a voice and its delay
-abbrev FitAt : Dsp → ℕ → Type 0
-FitAt d n = FitVoice (getD (d .voices) n noVoice) × (getD (d .«kon_delay») n 0 ≤ 5)
-
-voices-fit : (d : Dsp) (k : ℕ) → Decides (fitVoices d k) (FitGlob (globOf d) × ((n : ℕ) → n < k → FitAt d n))
-unfolding fitVoices
-voices-fit d zero = restated (glob-fit (globOf d)) (λ h. (h, below-none (FitAt d))) (λ h. h .0)
-voices-fit d (suc k) =
-    restated
-    (voices-fit d k and voice-fit (getD (d .voices) k noVoice) and le (getD (d .«kon_delay») k 0) 5)
-    (λ h. (h .0 .0 .0, λ n l. below-more (FitAt d) k (h .0 .0 .1) (h .0 .1, h .1) n (omega arith)))
-    (λ h. let v = h .1 k (omega arith) in (((h .0, λ n l. h .1 n (omega arith)), v .0), v .1))
+    (rule (globalsRule (globalsOf d))
+    and every (λ v. meets (voiceRule v)) FitVoice (λ v. rule (voiceRule v)) noVoice no-voice-fit (d .voices)
+    and every (λ n. meets (delayRule n)) (λ n. Facts (delayRule n)) (λ n. rule (delayRule n)) 0 (omega arith, tt) (d .«kon_delay»))
+    (λ h. record { globals = h .0 .0; voices = h .0 .1; delays = h .1 })
+    (λ f. ((f .globals, f .voices), f .delays))
 
 pub fit-facts : (d : Dsp) → fit d ≡ true → Fit d
-unfolding fit
-fit-facts d e = let h = voices-fit d 8 .sound e in record { glob = h .0; voices = λ n l. h .1 n l .0; delays = λ n l. h .1 n l .1 }
+fit-facts d e = fit-decides d .sound e
 
 pub facts-fit : (d : Dsp) → Fit d → fit d ≡ true
-unfolding fit
-facts-fit d h = voices-fit d 8 .holds (h .glob, λ n l. (h .voices n l, h .delays n l))
+facts-fit d f = fit-decides d .holds f
 
 pub new-fit : fit newDsp ≡ true
-unfolding fit fitVoices
+unfolding fit all
 new-fit = refl
 
 -- ---- a register write
 
 write-fit : (i x : ℕ) (v : Voice) → x < 256 → FitVoice v → FitVoice (writeVoice i x v)
 write-fit i x v l h =
-    let p = h .pitch in
-    record {
-      pitch = chosen (λ (n : ℕ). n ≤ 0x3FFF) (i =? 2) (omega arith) (chosen (λ (n : ℕ). n ≤ 0x3FFF) (i =? 3) (omega arith) p);
-      position = h .position;
-      adsr =
-          record {
-            level = h .adsr .level;
-            counter = h .adsr .counter;
-            attack = chosen (λ (n : ℕ). n ≤ 15) (i =? 5) (omega arith) (h .adsr .attack);
-            decay = chosen (λ (n : ℕ). n ≤ 7) (i =? 5) (omega arith) (h .adsr .decay);
-            target = chosen (λ (n : ℕ). n ≤ 7) (i =? 6) (omega arith) (h .adsr .target);
-            sustain = chosen (λ (n : ℕ). n ≤ 31) (i =? 6) (omega arith) (h .adsr .sustain);
-          };
-      brr = h .brr;
-    }
+    let b = v .adsr in
+    let a = adsr-fit v h in
+    let p = h .0 in
+    let w = writeVoice i x v in
+    let pitch : w .pitch ≤ 0x3FFF = chosen (λ (n : ℕ). n ≤ 0x3FFF) (i =? 2) (omega arith) (chosen (λ (n : ℕ). n ≤ 0x3FFF) (i =? 3) (omega arith) p) in
+    let attack : w .adsr .«attack_rate» ≤ 15 = chosen (λ (n : ℕ). n ≤ 15) (i =? 5) (omega arith) (attack-most b a) in
+    let decay : w .adsr .«decay_rate» ≤ 7 = chosen (λ (n : ℕ). n ≤ 7) (i =? 5) (omega arith) (decay-most b a) in
+    let target : w .adsr .«sustain_level» ≤ 7 = chosen (λ (n : ℕ). n ≤ 7) (i =? 6) (omega arith) (target-most b a) in
+    let sustain : w .adsr .«sustain_rate» ≤ 31 = chosen (λ (n : ℕ). n ≤ 31) (i =? 6) (omega arith) (sustain-most b a) in
+    voice-fit w pitch (h .1 .0) (a .0, (a .1 .0, (attack, (decay, (target, (sustain, tt)))))) (brr-fit v h)
 
-glob-write-fit : (i x : ℕ) (g : Glob) → FitGlob g → FitGlob (globWrite i x g)
-glob-write-fit i x g h =
-    record {
-      counter = h .counter;
-      lfsr = h .lfsr;
-      delay = chosen (λ (n : ℕ). n ≤ 15) (i =? 0x7D) (omega arith) (h .delay);
-      even = chosen (λ (n : ℕ). n % 2 ≡ 0) (i =? 0x2D) (omega arith) (h .even);
-      pages = h .pages;
-      most = h .most;
-      pairs = h .pairs;
-      within = h .within;
-    }
+globals-write-fit : (i x : ℕ) (g : Globals) → FitGlobals g → FitGlobals (globalsAfter i x g)
+globals-write-fit i x g h =
+    let k = globalsAfter i x g in
+    let delay : k .edl ≤ 15 = chosen (λ (n : ℕ). n ≤ 15) (i =? 0x7D) (omega arith) (delay-most g h) in
+    let even : k .pmon % 2 ≡ 0 = chosen (λ (n : ℕ). n % 2 ≡ 0) (i =? 0x2D) (omega arith) (pmon-even g h) in
+    (h .0, (h .1 .0, (delay, (even, h .1 .1 .1 .1))))
 
 abbrev pub AllFit : List Voice → Type 0
-AllFit vs = (n : ℕ) → n < 8 → FitVoice (getD vs n noVoice)
+AllFit vs = (n : ℕ) → FitVoice (getD vs n noVoice)
 
 pub set-fit : (vs : List Voice) (n : ℕ) (v : Voice) → FitVoice v → AllFit vs → AllFit (set vs n v)
-set-fit vs n v p h m l = set-keeps FitVoice noVoice vs n v p m (h m l)
+set-fit vs n v p h m = set-keeps FitVoice noVoice vs n v p m (h m)
 
-silenced-fit : (v : Voice) → FitVoice v → FitVoice (silenced v)
-silenced-fit v h = search needs
+pub silenced-fit : (v : Voice) → FitVoice v → FitVoice (silenced v)
+silenced-fit v h = (h .0, (h .1 .0, (omega arith, h .1 .1 .1)))
 
-silence-fit : (vs : List Voice) → AllFit vs → AllFit (silenceAll vs)
-unfolding silenceAll silenceVoice
-silence-fit vs h =
-    turns-keep AllFit silenceVoice 8 (λ n ws l k. set-fit ws n _ (silenced-fit (getD ws n noVoice) (k n l)) k) 8 vs (omega arith) h
+silence-fit : (vs : List Voice) → AllFit vs → AllFit (map silenced vs)
+silence-fit vs h n = map-both (λ (v w : Voice). FitVoice v) silenced noVoice (λ v w k. silenced-fit v k) vs vs refl n (h n)
 
 pub fit-kept-write : (i x : ℕ) (d : Dsp) → i < 128 → x < 256 → Fit d → Fit (writeAt i x d)
 unfolding writeAt writeParts
 fit-kept-write i x d li lx h =
     let v = getD (d .voices) (i / 16) noVoice in
     record {
-      glob = glob-write-fit i x (globOf d) (h .glob);
+      globals = globals-write-fit i x (globalsOf d) (h .globals);
       voices =
           chosen AllFit (i % 16 <? 8)
-          (set-fit (d .voices) (i / 16) _ (write-fit (i % 16) x v lx (h .voices (i / 16) (omega arith))) (h .voices))
+          (set-fit (d .voices) (i / 16) _ (write-fit (i % 16) x v lx (h .voices (i / 16))) (h .voices))
           (chosen AllFit (resets i x) (silence-fit (d .voices) (h .voices)) (h .voices));
       delays = h .delays;
     }

@@ -1,5 +1,5 @@
 -- A lane keeps its voice fit.
-use mathlib.Core.Bool.{Bool, not, _&&_}
+use mathlib.Core.Bool.{Bool, true, not, _&&_}
 use mathlib.Core.List.{List}
 use mathlib.Core.Logic.{inl}
 use mathlib.Core.Path.{refl}
@@ -7,101 +7,61 @@ use Prim.Native.Nat.{ℕ, _≤_}
 use native.Mathlib.Omega.{arith}
 use lib.IntN.{ℤ}
 use Rattle.numbers.specs.Choice.{if_then_else_, _=?_}
-use Rattle.numbers.proofs.Choice.{chosen}
 use Rattle.numbers.specs.Bits.{bit}
-use Rattle.dsp.specs.Envelope.{FitSettings, isOff}
+use Rattle.numbers.proofs.Choice.{chosen}
 use Rattle.dsp.specs.Fit.{FitVoice}
-use Rattle.dsp.specs.Voice.{FitPlay, Sounding}
-use Rattle.dsp.specs.Lane.{ownCell, shownCell, playOf, settingsOf, keyedOff, keyedOn, delayOf, Waiting, waited, noised, sourceOf, polledOf, waitedOf, Cell, cellAfter, cellOf}
-use Rattle.dsp.specs.declared.adsr.Settings.{Settings}
+use Rattle.dsp.specs.Envelope.{isOff}
+use Rattle.dsp.specs.Keys.{keyedOff, keyedOn, polledDelay}
+use Rattle.dsp.specs.Voice.{Sounding, PitchSource}
+use Rattle.dsp.specs.Lane.{Shared, polledOf, Waiting, waited, sourceOf, waitedOf, noised, Cell, cellAfter, cellOf, ownCell, shownCell}
 use Rattle.dsp.specs.declared.voice.Voice.{Voice}
-use Rattle.dsp.specs.declared.play.Source.{Source}
-use Rattle.dsp.specs.declared.play.Play.{Play}
-use Rattle.dsp.specs.declared.lane.Shared.{Shared}
+use Rattle.dsp.proofs.Fits.{voice-fit, adsr-fit}
 use Rattle.dsp.proofs.Plays.{fit-kept-step}
 
-pub settings-fit : (v : Voice) → FitVoice v → FitSettings (settingsOf v)
-settings-fit v h = record { attack = h .adsr .attack; decay = h .adsr .decay; target = h .adsr .target; sustain = h .adsr .sustain }
-
-play-fit : (endx : Bool) (v : Voice) → FitVoice v → FitPlay (playOf endx v)
-play-fit endx v h =
-    record {
-      envelope = record { level = h .adsr .level; counter = h .adsr .counter };
-      position = h .position;
-      block = record { nibble = h .brr .nibble; fill = h .brr .fill };
-    }
-
-off-fit : (on : Bool) (p : Play) → FitPlay p → FitPlay (keyedOff on p)
+off-fit : (on : Bool) (v : Voice) → FitVoice v → FitVoice (keyedOff on v)
 unfolding keyedOff
-off-fit on p h =
-    chosen FitPlay (on && not (isOff (p .envelope .phase)))
-    (record { envelope = record { level = h .envelope .level; counter = h .envelope .counter }; position = h .position; block = record { nibble = h .block .nibble; fill = h .block .fill } })
-    h
+off-fit on v h = chosen FitVoice (on && not (isOff (v .adsr .«envelope_phase»))) h h
 
-on-fit : (on : Bool) (dir srcn : ℕ) (p : Play) → FitPlay p → FitPlay (keyedOn on dir srcn p)
+on-fit : (on : Bool) (dir : ℕ) (v : Voice) → FitVoice v → FitVoice (keyedOn on dir v)
 unfolding keyedOn
-on-fit on dir srcn p h =
-    chosen FitPlay on
-    (record { envelope = record { level = omega arith; counter = omega arith }; position = omega arith; block = record { nibble = omega arith; fill = inl refl } })
-    h
+on-fit on dir v h =
+    chosen FitVoice on (voice-fit (keyedOn true dir v) (h .0) (omega arith) (omega arith, (omega arith, adsr-fit v h .1 .1)) (omega arith, (inl refl, tt))) h
 
-pub polled-fit : (c : Shared) (j : ℕ) (v : Voice) (endx : Bool) → FitVoice v → FitPlay (polledOf c j v endx)
+pub polled-fit : (c : Shared) (j : ℕ) (v : Voice) (endx : Bool) → FitVoice v → FitVoice (polledOf c j v endx .voice)
 unfolding polledOf
-polled-fit c j v endx h =
-    let p = keyedOff (bit (c .koff) j) (playOf endx v) in
-    on-fit (bit (c .kon) j) (c .«dir_base») (v .srcn) p (off-fit (bit (c .koff) j) (playOf endx v) (play-fit endx v h))
+polled-fit c j v endx h = on-fit (bit (c .kon) j) (c .«dir_base») _ (off-fit (bit (c .koff) j) v h)
 
 pub record FitWaiting (w : Waiting) : Type 0 where
-  pub play : FitPlay (w .play)
+  pub voice : FitVoice (w .sounding .voice)
   pub delay : w .delay ≤ 5
 
-waited-fit : (ram : List ℕ) (dir srcn : ℕ) (f : Settings) (pitch : ℕ) (x : Source) (envx delay : ℕ) (s : Sounding) → FitSettings f
-    → FitPlay (s .play) → delay ≤ 5 → FitWaiting (waited ram dir srcn f pitch x envx delay s)
+waited-fit : (ram : List ℕ) (dir srcn : ℕ) (x : PitchSource) (envx delay : ℕ) (s : Sounding) → FitVoice (s .voice) → delay ≤ 5
+    → FitWaiting (waited ram dir srcn x envx delay s)
 unfolding waited
-waited-fit ram dir srcn f pitch x envx delay s g h d =
-    chosen FitWaiting (delay =? 0) (record { play = fit-kept-step ram dir srcn f pitch x envx s g h; delay = omega arith }) (record { play = h; delay = omega arith })
+waited-fit ram dir srcn x envx delay s h d =
+    chosen FitWaiting (delay =? 0) (record { voice = fit-kept-step ram dir srcn x envx s h; delay = omega arith }) (record { voice = h; delay = omega arith })
 
-pub fit-kept-waited : (c : Shared) (ram : List ℕ) (j : ℕ) (prev : ℤ) (v : Voice) (delay srcn envx : ℕ) (endx : Bool) (samples : List ℤ)
-    → FitVoice v → delay ≤ 5 → FitWaiting (waitedOf c ram j prev v delay srcn envx endx samples)
+pub fit-kept-waited : (c : Shared) (ram : List ℕ) (j : ℕ) (prev : ℤ) (v : Voice) (delay srcn envx : ℕ) (endx : Bool) → FitVoice v → delay ≤ 5
+    → FitWaiting (waitedOf c ram j prev v delay srcn envx endx)
 unfolding waitedOf
-fit-kept-waited c ram j prev v delay srcn envx endx samples h d =
-    waited-fit ram (c .dir) srcn (settingsOf v) (v .pitch) (sourceOf (c .pmon) j prev) envx (delayOf (bit (c .kon) j) delay)
-    (record { play = polledOf c j v endx; samples = samples }) (settings-fit v h) (polled-fit c j v endx h)
+fit-kept-waited c ram j prev v delay srcn envx endx h d =
+    waited-fit ram (c .dir) srcn (sourceOf (c .pmon) j prev) envx (polledDelay (bit (c .kon) j) delay) (polledOf c j v endx) (polled-fit c j v endx h)
     (chosen (λ (n : ℕ). n ≤ 5) (bit (c .kon) j) (omega arith) d)
 
 pub record FitCell (x : Cell) : Type 0 where
   pub voice : FitVoice (x .voice)
   pub delay : x .delay ≤ 5
 
-pub after-fit : (c : Shared) (j : ℕ) (v : Voice) (w : Waiting) → FitVoice v → FitWaiting w → FitCell (cellAfter c j v w)
+pub after-fit : (c : Shared) (j : ℕ) (w : Waiting) → FitWaiting w → FitCell (cellAfter c j w)
 unfolding cellAfter noised
-after-fit c j v w h k =
-    record {
-      voice =
-          record {
-            pitch = h .pitch;
-            position = k .play .position;
-            adsr =
-                record {
-                  level = k .play .envelope .level;
-                  counter = k .play .envelope .counter;
-                  attack = h .adsr .attack;
-                  decay = h .adsr .decay;
-                  target = h .adsr .target;
-                  sustain = h .adsr .sustain;
-                };
-            brr = record { nibble = k .play .block .nibble; fill = k .play .block .fill };
-          };
-      delay = k .delay;
-    }
+after-fit c j w k = record { voice = k .voice; delay = k .delay }
 
 -- what a lane makes of a fit voice
-pub fit-kept-cell : (c : Shared) (ram : List ℕ) (j : ℕ) (prev : ℤ) (v : Voice) (delay srcn envx : ℕ) (endx : Bool)
-    → FitVoice v → delay ≤ 5 → FitCell (cellOf c ram j prev v delay srcn envx endx)
+pub fit-kept-cell : (c : Shared) (ram : List ℕ) (j : ℕ) (prev : ℤ) (v : Voice) (delay srcn envx : ℕ) (endx : Bool) → FitVoice v → delay ≤ 5
+    → FitCell (cellOf c ram j prev v delay srcn envx endx)
 unfolding cellOf
 fit-kept-cell c ram j prev v delay srcn envx endx h d =
-    after-fit c j v (waitedOf c ram j prev v delay srcn envx endx (v .brr .«sample_buffer»)) h
-    (fit-kept-waited c ram j prev v delay srcn envx endx (v .brr .«sample_buffer») h d)
+    after-fit c j (waitedOf c ram j prev v delay srcn envx endx) (fit-kept-waited c ram j prev v delay srcn envx endx h d)
 
 -- worked, or shown from the sheet
 pub fit-kept-either : (worked : Bool) (c : Shared) (ram : List ℕ) (j : ℕ) (prev : ℤ) (v : Voice) (delay : ℕ) (bytes slot : List ℕ) → FitVoice v → delay ≤ 5

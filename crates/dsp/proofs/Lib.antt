@@ -1,3 +1,5 @@
+pub mod Rules
+pub mod Clocks
 pub mod Blocks
 pub mod Envelopes
 pub mod Pitch
@@ -7,9 +9,10 @@ pub mod Echoes
 pub mod Readings
 pub mod Writes
 pub mod Tests
-pub mod Turns
 pub mod Fits
 pub mod Lanes
+pub mod Taking
+pub mod Moves
 pub mod Ticks
 pub mod Drives
 pub mod Whole

@@ -1,6 +1,6 @@
--- The modulated pitch is never negative, and at most twice the base.
+-- The modulated pitch is never negative, and at most twice the base; the position that it moves never goes back, and passes at most seven samples.
 use mathlib.Core.Path.{_≡_, refl, sym, subst, _∙_}
-use Prim.Native.Nat.{ℕ, zero, suc, _+_, _*_, _-_, _/_, _≤_, _<_}
+use Prim.Native.Nat.{ℕ, zero, suc, _+_, _*_, _-_, _/_, _%_, _≤_, _<_}
 use native.Mathlib.Nat.{mul-le-mul-right}
 use native.Mathlib.Omega.{arith}
 use borrow.Author.Tests.{le-ltb}
@@ -9,10 +9,12 @@ use lib.IntN.{ℤ, pos, negsuc, negℤ, natAbs, _+ℤ_, _*ℤ_}
 use lib.Signed.{shrZ, nonNeg, mag}
 use mir.Syntax.{w16, w32}
 use mir.Val.{Fits, toZ, ofZ}
-use Rattle.dsp.specs.Voice.{pitchOf}
-use Rattle.dsp.specs.declared.play.Source.the-variants.{From}
-use Rattle.numbers.specs.Signed.{_>>_}
+use Rattle.numbers.specs.Signed.{natural, _>>_}
+use Rattle.numbers.specs.Choice.{_≤?_}
+use Rattle.numbers.proofs.Choice.{chosen, least-le}
 use Rattle.numbers.proofs.Range.{reads, quotes, q-unsigned, q-elem16}
+use Rattle.dsp.specs.Voice.{PitchSource, pitchOf, positionOf, samplesTaken}
+use Rattle.dsp.specs.declared.voice.Voice.{Voice}
 
 -- z is the number n, at most m
 pub record IsNat (m : ℕ) (z : ℤ) : Type 0 where
@@ -48,7 +50,20 @@ machine-is b x f h = reads (search (quotes, q-unsigned, q-elem16) depth 20) tt
 pub machine-nat : (b : ℕ) (x : ℤ) → Fits w16 b → mag x < 32768 → IsNat (2 * b) (machine b x)
 machine-nat b x f h = let k = pitch-nat b x h in record { n = k .n; is = machine-is b x f h ∙ k .is; le = k .le }
 
--- the modulated pitch is document 01's formula: nothing is lost in ℕ
-pub pitch-is : (b : ℕ) (x : ℤ) → mag x < 32768 → pos (pitchOf b (From x)) ≡ pos b +ℤ (((x >> 5) *ℤ pos b) >> 10)
-unfolding pitchOf
-pitch-is b x h = let k = pitch-nat b x h in rw (k .is)
+-- ---- the position within a tick
+
+pub position-le : (x : PitchSource) (v : Voice) → positionOf x v ≤ 0x7FFF
+unfolding positionOf
+position-le x v = least-le (v .«pitch_counter» % 0x4000 + natural (pitchOf (v .pitch) x)) 0x7FFF
+
+-- it never goes back
+pub position-least : (x : PitchSource) (v : Voice) → v .«pitch_counter» % 0x4000 ≤ positionOf x v
+unfolding positionOf
+position-least x v =
+    let P : ℕ → Type 0 = λ (n : ℕ). v .«pitch_counter» % 0x4000 ≤ n in
+    chosen P (v .«pitch_counter» % 0x4000 + natural (pitchOf (v .pitch) x) ≤? 0x7FFF) (omega arith) (omega arith)
+
+-- at most 7 samples a tick
+pub seven : (x : PitchSource) (v : Voice) → samplesTaken x v ≤ 7
+unfolding samplesTaken
+seven x v = omega (arith, position-le x v)

@@ -1,24 +1,26 @@
--- Samples one by one: what a turn of the loop does to the definition; and that a tick keeps a voice fit.
+-- Samples one by one: what a turn of the loop does to the definition; and that a voice's step keeps it fit.
 use mathlib.Core.Path.{_≡_, refl}
-use mathlib.Core.Bool.{Bool, true, false, not, _&&_}
+use mathlib.Core.Bool.{true, false, not, _&&_}
 use mathlib.Core.List.{List}
 use mathlib.Core.Logic.{inr}
-use Prim.Native.Nat.{ℕ, zero, suc, _+_, _-_, _%_, _≤_, _<_}
+use Prim.Native.Nat.{ℕ, zero, suc, _-_, _≤_, _<_}
 use native.Mathlib.Omega.{arith}
-use native.Mathlib.Decide.{decLt}
-use borrow.Author.Tests.{eq-eqb, ne-eqb}
-use lib.IntN.{ℤ}
+use borrow.Author.Tests.{eqb-false}
 use lib.ListN.{length}
+use Rattle.numbers.specs.Choice.{_=?_}
 use Rattle.numbers.specs.Listed.{listed}
-use Rattle.numbers.specs.Choice.{_≤?_, _=?_}
-use Rattle.numbers.proofs.Choice.{chosen, least-le}
-use Rattle.dsp.specs.Brr.{wordAt, decodeBlock}
-use Rattle.dsp.specs.Envelope.{FitEnvelope, FitSettings, envelopeTick}
-use Rattle.dsp.specs.Voice.{Sounding, Stepped, FitBlock, FitPlay, pitchOf, positionOf, samplesTaken, muted, filled, placed, decodedAt, nextAddress, nextBlock, resolved, pushed, pushedNext, lastOf, takeOne, consume, withEnvelope, withPosition, idle, advanced, interpolated, shown, sounded, voiceStep}
-use Rattle.dsp.specs.declared.adsr.Settings.{Settings}
-use Rattle.dsp.specs.declared.play.Source.{Source}
-use Rattle.dsp.specs.declared.play.Play.{Play}
+use Rattle.numbers.proofs.Choice.{tested, chosen}
+use Rattle.dsp.specs.Machine.{noVoice}
+use Rattle.dsp.specs.With.{withEnvelope}
+use Rattle.dsp.specs.Fit.{FitAdsr, FitBrr, FitVoice}
+use Rattle.dsp.specs.Envelope.{envelopeTick}
+use Rattle.dsp.specs.Ram.{wordAt}
+use Rattle.dsp.specs.Brr.{DecodedBlock, decodeBlock}
+use Rattle.dsp.specs.Voice.{Sounding, PitchSource, samplesTaken, blockOf, placed, decodedAt, nextAddress, nextBlock, resolved, pushed, pushedNext, lastOf, takeOne, consume, idle, advanced, interpolated, Stepped, shown, sounded, voiceStep}
+use Rattle.dsp.specs.declared.voice.Voice.{Voice}
+use Rattle.dsp.proofs.Fits.{voice-fit, adsr-fit, brr-fit}
 use Rattle.dsp.proofs.Envelopes.{fit-kept-envelope}
+use Rattle.dsp.proofs.Taking.{consumed-keeps, played-keeps}
 
 -- ---- the loop that consumes
 
@@ -28,181 +30,117 @@ module _ (ram : List ℕ) (dir srcn : ℕ) where
   nothing-left zero s e = refl
   nothing-left (suc n) s e = absurd (omega arith)
 
-  pub stops : (left : ℕ) (s t : Sounding) → 0 < left → t ≡ takeOne ram dir srcn s → (lastOf s && not (t .play .«key_on»)) ≡ true → t ≡ consume ram dir srcn left s
+  pub stops : (left : ℕ) (s t : Sounding) → 0 < left → t ≡ takeOne ram dir srcn s → (lastOf s && not (t .voice .«key_on»)) ≡ true → t ≡ consume ram dir srcn left s
   unfolding consume
   stops zero s t l e h = absurd (omega arith)
   stops (suc n) s t l e h = rw (← e, h)
 
-  pub goes-on : (left : ℕ) (s t : Sounding) → 0 < left → t ≡ takeOne ram dir srcn s → (lastOf s && not (t .play .«key_on»)) ≡ false
+  pub goes-on : (left : ℕ) (s t : Sounding) → 0 < left → t ≡ takeOne ram dir srcn s → (lastOf s && not (t .voice .«key_on»)) ≡ false
       → consume ram dir srcn (left - 1) t ≡ consume ram dir srcn left s
   unfolding consume
   goes-on zero s t l e h = absurd (omega arith)
   goes-on (suc n) s t l e h = let z : suc n - 1 ≡ n = omega arith in rw (← e, h, z)
 
--- ---- the block that is played: 16 samples
+-- ---- the block that is played: 16 samples, of which the next is below 16, and a fill of 0 or 16
 
 abbrev Sized : Sounding → Type 0
-Sized s = length (s .samples) ≡ 16
+Sized s = length (s .voice .brr .«sample_buffer») ≡ 16
 
-decoded-sized : (ram : List ℕ) (a : ℕ) (s : Sounding) → length (decodedAt ram a s .samples) ≡ 16
+abbrev Block : Sounding → Type 0
+Block s = FitBrr (s .voice .brr)
+
+pub record Ready (s : Sounding) : Type 0 where
+  pub sized : Sized s
+  pub block : Block s
+
+placed-block : (a : ℕ) (d : DecodedBlock) (v : Voice) → placed a d v .brr ≡ blockOf a d
+unfolding placed
+placed-block a d v = chosen (λ (w : Voice). w .brr ≡ blockOf a d) (d .end && not (d .loops)) refl refl
+
+decoded-ready : (ram : List ℕ) (a : ℕ) (s : Sounding) → Ready (decodedAt ram a s)
 unfolding decodedAt decodeBlock listed
-decoded-sized ram a s = refl
-
-pub taken-sized : (ram : List ℕ) (dir srcn : ℕ) (s : Sounding) → length (s .samples) ≡ 16 → length (takeOne ram dir srcn s .samples) ≡ 16
-unfolding takeOne nextBlock
-taken-sized ram dir srcn s h = chosen Sized (lastOf s) (decoded-sized ram (nextAddress ram dir srcn (pushedNext s .play)) (pushedNext s)) h
-
-pub resolved-sized : (ram : List ℕ) (s : Sounding) → length (s .samples) ≡ 16 → length (resolved ram s .samples) ≡ 16
-unfolding resolved
-resolved-sized ram s h = chosen Sized (s .play .«buffer_fill» =? 0) (decoded-sized ram (wordAt ram (s .play .addr)) s) h
-
--- ---- its index is below 16 and its fill 0 or 16
-
-abbrev Ready : Sounding → Type 0
-Ready s = FitBlock (s .play)
-
-filled-block : (a : ℕ) (p1 p2 : ℤ) (end : Bool) (p : Play) → FitBlock (filled a p1 p2 end p)
-unfolding filled
-filled-block a p1 p2 end p = record { nibble = omega arith; fill = inr refl }
-
-placed-block : (a : ℕ) (p1 p2 : ℤ) (end loops : Bool) (p : Play) → FitBlock (placed a p1 p2 end loops p)
-unfolding placed muted
-placed-block a p1 p2 end loops p =
-    let h = filled-block a p1 p2 end p in
-    chosen FitBlock (end && not loops) (record { nibble = h .nibble; fill = h .fill }) h
-
-decoded-ready : (ram : List ℕ) (a : ℕ) (s : Sounding) → FitBlock (decodedAt ram a s .play)
-unfolding decodedAt
 decoded-ready ram a s =
-    let d = decodeBlock ram a (s .play .prev1) (s .play .prev2) in
-    placed-block a (d .prev1) (d .prev2) (d .end) (d .loops) (s .play)
+    let e = placed-block a (decodeBlock ram a (s .voice .brr .prev1) (s .voice .brr .prev2)) (s .voice) in
+    record { sized = rw e; block = rw e (omega arith, (inr refl, tt)) }
 
-pub taken-ready : (ram : List ℕ) (dir srcn : ℕ) (s : Sounding) → FitBlock (s .play) → FitBlock (takeOne ram dir srcn s .play)
+taken-block : (ram : List ℕ) (dir srcn : ℕ) (s : Sounding) → Block s → Block (takeOne ram dir srcn s)
+unfolding takeOne nextBlock pushed
+taken-block ram dir srcn s h =
+    let n = h .0 in
+    tested Block (lastOf s) (λ e. decoded-ready ram (nextAddress ram dir srcn (pushedNext s .voice .brr)) (pushedNext s) .block)
+    (λ e. let l : s .voice .brr .«nibble_idx» ≡ 15 → ⊥ = eqb-false _ _ e in (omega arith, h .1))
+
+pub taken-ready : (ram : List ℕ) (dir srcn : ℕ) (s : Sounding) → Ready s → Ready (takeOne ram dir srcn s)
 unfolding takeOne nextBlock pushed
 taken-ready ram dir srcn s h =
-    let n = h .nibble in
-    elim (decLt (s .play .«nibble_idx») 15) [
-      | yes l ↦ rw (ne-eqb _ _ (λ (e : s .play .«nibble_idx» ≡ 15). omega arith)) (record { nibble = omega arith; fill = h .fill })
-      | no l ↦ let e : s .play .«nibble_idx» ≡ 15 = omega arith in rw (eq-eqb _ _ e) (decoded-ready ram (nextAddress ram dir srcn (pushedNext s .play)) (pushedNext s))
-    ]
+    record {
+      sized = chosen Sized (lastOf s) (decoded-ready ram (nextAddress ram dir srcn (pushedNext s .voice .brr)) (pushedNext s) .sized) (h .sized);
+      block = taken-block ram dir srcn s (h .block);
+    }
 
-consumed-ready : (ram : List ℕ) (dir srcn n : ℕ) (s : Sounding) → FitBlock (s .play) → FitBlock (consume ram dir srcn n s .play)
-unfolding consume
-consumed-ready ram dir srcn zero s h = h
-consumed-ready ram dir srcn (suc n) s h =
-    let k = taken-ready ram dir srcn s h in
-    let t = takeOne ram dir srcn s in
-    chosen Ready (lastOf s && not (t .play .«key_on»)) k (consumed-ready ram dir srcn n t k)
-
-pub resolved-ready : (ram : List ℕ) (s : Sounding) → FitBlock (s .play) → FitBlock (resolved ram s .play)
+resolved-block : (ram : List ℕ) (s : Sounding) → Block s → Block (resolved ram s)
 unfolding resolved
-resolved-ready ram s h = chosen Ready (s .play .«buffer_fill» =? 0) (decoded-ready ram (wordAt ram (s .play .addr)) s) h
+resolved-block ram s h = chosen Block (s .voice .brr .«buffer_fill» =? 0) (decoded-ready ram (wordAt ram (s .voice .brr .addr)) s .block) h
 
--- ---- the envelope and the position
-
-pub record Apt (p : Play) : Type 0 where
-  pub envelope : FitEnvelope (p .envelope)
-  pub position : p .«pitch_counter» ≤ 0x7FFF
-
-placed-apt : (a : ℕ) (p1 p2 : ℤ) (end loops : Bool) (p : Play) → Apt p → Apt (placed a p1 p2 end loops p)
-unfolding placed muted filled
-placed-apt a p1 p2 end loops p h =
-    chosen Apt (end && not loops)
-    (record { envelope = record { level = omega arith; counter = h .envelope .counter }; position = h .position })
-    (record { envelope = h .envelope; position = h .position })
-
-decoded-apt : (ram : List ℕ) (a : ℕ) (s : Sounding) → Apt (s .play) → Apt (decodedAt ram a s .play)
-unfolding decodedAt
-decoded-apt ram a s h = let d = decodeBlock ram a (s .play .prev1) (s .play .prev2) in placed-apt a (d .prev1) (d .prev2) (d .end) (d .loops) (s .play) h
-
-taken-apt : (ram : List ℕ) (dir srcn : ℕ) (s : Sounding) → Apt (s .play) → Apt (takeOne ram dir srcn s .play)
-unfolding takeOne nextBlock pushed
-taken-apt ram dir srcn s h =
-    let g : Apt (pushedNext s .play) = record { envelope = h .envelope; position = h .position } in
-    chosen (λ (t : Sounding). Apt (t .play)) (lastOf s) (decoded-apt ram (nextAddress ram dir srcn (pushedNext s .play)) (pushedNext s) g) g
-
-consumed-apt : (ram : List ℕ) (dir srcn n : ℕ) (s : Sounding) → Apt (s .play) → Apt (consume ram dir srcn n s .play)
-unfolding consume
-consumed-apt ram dir srcn zero s h = h
-consumed-apt ram dir srcn (suc n) s h =
-    let k = taken-apt ram dir srcn s h in
-    let t = takeOne ram dir srcn s in
-    chosen (λ (t : Sounding). Apt (t .play)) (lastOf s && not (t .play .«key_on»)) k (consumed-apt ram dir srcn n t k)
-
-pub resolved-apt : (ram : List ℕ) (s : Sounding) → Apt (s .play) → Apt (resolved ram s .play)
+pub resolved-ready : (ram : List ℕ) (s : Sounding) → Ready s → Ready (resolved ram s)
 unfolding resolved
-resolved-apt ram s h = chosen (λ (t : Sounding). Apt (t .play)) (s .play .«buffer_fill» =? 0) (decoded-apt ram (wordAt ram (s .play .addr)) s h) h
+resolved-ready ram s h = chosen Ready (s .voice .brr .«buffer_fill» =? 0) (decoded-ready ram (wordAt ram (s .voice .brr .addr)) s) h
 
--- ---- the position within a tick
+-- ---- the level, whatever pitch and position are
 
-pub position-le : (p : Play) (pitch : ℕ) (x : Source) → positionOf p pitch x ≤ 0x7FFF
-unfolding positionOf
-position-le p pitch x = least-le (p .«pitch_counter» % 0x4000 + pitchOf pitch x) 0x7FFF
+abbrev pub Low : Voice → Type 0
+Low v = v .adsr .«envelope_level» ≤ 0x800
 
--- it never goes back
-pub position-least : (p : Play) (pitch : ℕ) (x : Source) → p .«pitch_counter» % 0x4000 ≤ positionOf p pitch x
-unfolding positionOf
-position-least p pitch x =
-    let P : ℕ → Type 0 = λ (n : ℕ). p .«pitch_counter» % 0x4000 ≤ n in
-    chosen P (p .«pitch_counter» % 0x4000 + pitchOf pitch x ≤? 0x7FFF) (omega arith) (omega arith)
+pub low-played : (ram : List ℕ) (dir srcn : ℕ) (x : PitchSource) (s : Sounding) → Low (s .voice) → Low (advanced ram dir srcn x (resolved ram s) .voice)
+unfolding pushed
+low-played = played-keeps Low (λ a d v h. h) (λ v h. omega arith) (λ v h. h) (λ v p l h. h)
 
--- at most 7 samples a tick
-pub seven : (p : Play) (pitch : ℕ) (x : Source) → samplesTaken p pitch x ≤ 7
-unfolding samplesTaken
-seven p pitch x = omega (arith, position-le p pitch x)
+-- a voice of pitch n, of which a contract about any voice of that pitch may speak
+abbrev pub pitched : ℕ → Voice
+pitched n =
+    record {
+      «left_vol» = noVoice .«left_vol»;
+      «right_vol» = noVoice .«right_vol»;
+      pitch = n;
+      srcn = noVoice .srcn;
+      «key_on» = noVoice .«key_on»;
+      «pitch_counter» = noVoice .«pitch_counter»;
+      «current_sample» = noVoice .«current_sample»;
+      history = noVoice .history;
+      adsr = noVoice .adsr;
+      brr = noVoice .brr;
+    }
 
-pub advanced-ready : (ram : List ℕ) (dir srcn pitch : ℕ) (x : Source) (s : Sounding) → FitBlock (s .play) → FitBlock (advanced ram dir srcn pitch x s .play)
-unfolding advanced
-advanced-ready ram dir srcn pitch x s h =
-    let q : Sounding = record { play = withPosition (s .play) (positionOf (s .play) pitch x); samples = s .samples } in
-    consumed-ready ram dir srcn (samplesTaken (s .play) pitch x) q (record { nibble = h .nibble; fill = h .fill })
+-- ---- the step
 
-pub advanced-apt : (ram : List ℕ) (dir srcn pitch : ℕ) (x : Source) (s : Sounding) → Apt (s .play) → Apt (advanced ram dir srcn pitch x s .play)
-unfolding advanced
-advanced-apt ram dir srcn pitch x s h =
-    let q : Sounding = record { play = withPosition (s .play) (positionOf (s .play) pitch x); samples = s .samples } in
-    consumed-apt ram dir srcn (samplesTaken (s .play) pitch x) q (record { envelope = h .envelope; position = position-le (s .play) pitch x })
-
--- ---- the tick
-
-module _ (ram : List ℕ) (dir srcn pitch : ℕ) (x : Source) (envx : ℕ) where
-  pub rests : (s : Sounding) → idle (s .play) ≡ true → _≡_ {A = Stepped} (record { play = s .play; samples = s .samples; envx = envx }) (sounded ram dir srcn pitch x envx s)
+module _ (ram : List ℕ) (dir srcn : ℕ) (x : PitchSource) (envx : ℕ) where
+  pub rests : (s : Sounding) → idle (s .voice) ≡ true → _≡_ {A = Stepped} (record { sounding = s; envx = envx }) (sounded ram dir srcn x envx s)
   unfolding sounded
   rests s h = rw h
 
-  pub plays : (s : Sounding) → idle (s .play) ≡ false → shown (advanced ram dir srcn pitch x (resolved ram s)) ≡ sounded ram dir srcn pitch x envx s
+  pub plays : (s : Sounding) → idle (s .voice) ≡ false → shown (advanced ram dir srcn x (resolved ram s)) ≡ sounded ram dir srcn x envx s
   unfolding sounded
   plays s h = rw h
 
--- after the envelope
-pub enveloped-apt : (f : Settings) (p : Play) → FitSettings f → Apt p → Apt (withEnvelope p (envelopeTick f (p .envelope)))
-enveloped-apt f p g h = record { envelope = fit-kept-envelope f (p .envelope) g (h .envelope); position = h .position }
+-- pitch, position and envelope; the block is `Block`
+abbrev Tuned : Voice → Type 0
+Tuned v = (v .pitch ≤ 0x3FFF) × (v .«pitch_counter» ≤ 0x7FFF) × FitAdsr (v .adsr)
 
-pub fit-apt : (p : Play) → FitPlay p → Apt p
-fit-apt p h = record { envelope = h .envelope; position = h .position }
+tuned-played : (ram : List ℕ) (dir srcn : ℕ) (x : PitchSource) (s : Sounding) → Tuned (s .voice) → Tuned (advanced ram dir srcn x (resolved ram s) .voice)
+unfolding pushed
+tuned-played = played-keeps Tuned (λ a d v h. h) (λ v h. (h .0, h .1, (omega arith, h .2 .1))) (λ v h. h) (λ v p l h. (h .0, l, h .2))
 
-pub shown-apt : (p : Play) → Apt p → Apt (interpolated p)
-unfolding interpolated
-shown-apt p h = record { envelope = h .envelope; position = h .position }
+block-played : (ram : List ℕ) (dir srcn : ℕ) (x : PitchSource) (s : Sounding) → Block s → Block (advanced ram dir srcn x (resolved ram s))
+unfolding advanced
+block-played ram dir srcn x s h = consumed-keeps Block ram dir srcn (taken-block ram dir srcn) (samplesTaken x (resolved ram s .voice)) _ (resolved-block ram s h)
 
-shown-ready : (p : Play) → FitBlock p → FitBlock (interpolated p)
-unfolding interpolated
-shown-ready p h = record { nibble = h .nibble; fill = h .fill }
-
-sounded-fit : (ram : List ℕ) (dir srcn pitch : ℕ) (x : Source) (envx : ℕ) (s : Sounding) → FitBlock (s .play) → Apt (s .play)
-    → FitPlay (sounded ram dir srcn pitch x envx s .play)
-unfolding sounded
-sounded-fit ram dir srcn pitch x envx s r a =
-    let t = advanced ram dir srcn pitch x (resolved ram s) in
-    let u = shown-ready (t .play) (advanced-ready ram dir srcn pitch x (resolved ram s) (resolved-ready ram s r)) in
-    let b = shown-apt (t .play) (advanced-apt ram dir srcn pitch x (resolved ram s) (resolved-apt ram s a)) in
-    chosen (λ (t : Stepped). FitPlay (t .play)) (idle (s .play))
-    (record { envelope = a .envelope; position = a .position; block = r })
-    (record { envelope = b .envelope; position = b .position; block = u })
-
-pub fit-kept-step : (ram : List ℕ) (dir srcn : ℕ) (f : Settings) (pitch : ℕ) (x : Source) (envx : ℕ) (s : Sounding) → FitSettings f
-    → FitPlay (s .play) → FitPlay (voiceStep ram dir srcn f pitch x envx s .play)
-unfolding voiceStep
-fit-kept-step ram dir srcn f pitch x envx s g h =
-    let e : Sounding = record { play = withEnvelope (s .play) (envelopeTick f (s .play .envelope)); samples = s .samples } in
-    sounded-fit ram dir srcn pitch x envx e (record { nibble = h .block .nibble; fill = h .block .fill }) (enveloped-apt f (s .play) g (fit-apt (s .play) h))
+pub fit-kept-step : (ram : List ℕ) (dir srcn : ℕ) (x : PitchSource) (envx : ℕ) (s : Sounding) → FitVoice (s .voice) → FitVoice (voiceStep ram dir srcn x envx s .sounding .voice)
+unfolding voiceStep sounded interpolated
+fit-kept-step ram dir srcn x envx s h =
+    let v = s .voice in
+    let b = brr-fit v h in
+    let a = fit-kept-envelope (v .adsr) (adsr-fit v h) in
+    let e : Sounding = record { voice = withEnvelope v (envelopeTick (v .adsr)); endx = s .endx } in
+    let t = tuned-played ram dir srcn x e (h .0, h .1 .0, a) in
+    chosen (λ (t : Stepped). FitVoice (t .sounding .voice)) (idle (e .voice)) (voice-fit (e .voice) (h .0) (h .1 .0) a b)
+    (voice-fit (advanced ram dir srcn x (resolved ram e) .voice) (t .0) (t .1) (t .2) (block-played ram dir srcn x e b))

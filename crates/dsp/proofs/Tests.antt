@@ -5,6 +5,7 @@ use mathlib.Core.Path.{_≡_, refl}
 use Prim.Native.Nat.{ℕ, _≤_, _<_}
 use borrow.Author.Tests.{leb-true, ltb-true, eqb-true, le-leb, lt-ltb, eq-eqb}
 use Rattle.numbers.specs.Choice.{_≤?_, _<?_, _=?_}
+use Rattle.numbers.proofs.Lists.{and-both}
 
 pub record Decides (b : Bool) (P : Type 0) : Type 0 where
   pub sound : b ≡ true → P
@@ -23,10 +24,6 @@ eq m n = record { sound = eqb-true m n; holds = eq-eqb m n }
 pub restated : {b : Bool} {P Q : Type 0} → Decides b P → (P → Q) → (Q → P) → Decides b Q
 restated t f g = record { sound = λ e. f (t .sound e); holds = λ q. t .holds (g q) }
 
-both : (a b : Bool) → (a && b) ≡ true → (a ≡ true) × (b ≡ true)
-both true b h = (refl, h)
-both false b h = (h, cc)
-
 both-true : (a b : Bool) → a ≡ true → b ≡ true → (a && b) ≡ true
 both-true a b p q = rw (p, q)
 
@@ -42,13 +39,13 @@ infixl 35 _and_
 pub _and_ : {a b : Bool} {P Q : Type 0} → Decides a P → Decides b Q → Decides (a && b) (P × Q)
 _and_ {a} {b} s t =
     record {
-      sound = λ h. (s .sound (both a b h .0), t .sound (both a b h .1));
+      sound = λ h. (s .sound (and-both a b h .0), t .sound (and-both a b h .1));
       holds = λ h. both-true a b (s .holds (h .0)) (t .holds (h .1));
     }
 
-infixl 30 _or_
-pub _or_ : {a b : Bool} {P Q : Type 0} → Decides a P → Decides b Q → Decides (a || b) (P ⊎ Q)
-_or_ {a} {b} s t =
+infixl 30 _otherwise_
+pub _otherwise_ : {a b : Bool} {P Q : Type 0} → Decides a P → Decides b Q → Decides (a || b) (P ⊎ Q)
+_otherwise_ {a} {b} s t =
     record {
       sound = λ h. ⊎-elim (λ e. inl (s .sound e)) (λ e. inr (t .sound e)) (either a b h);
       holds = λ h. ⊎-elim (λ p. rw (s .holds p)) (λ q. or-true a b (t .holds q)) h;

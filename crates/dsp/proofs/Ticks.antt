@@ -1,28 +1,30 @@
 -- A tick of the machine: what it keeps, and how its parts make the definition.
 use mathlib.Core.Bool.{Bool}
-use mathlib.Core.List.{List, []}
+use mathlib.Core.List.{List, [], _∷_}
 use mathlib.Core.Path.{_≡_, refl, _∙_}
-use Prim.Native.Nat.{ℕ, zero, suc, _/_, _%_, _≤_, _<_}
+use Prim.Native.Nat.{ℕ, zero, suc, _+_, _/_, _%_, _≤_, _<_}
 use native.Mathlib.Omega.{arith}
 use lib.IntN.{ℤ}
-use lib.ListN.{getD, length, length-set}
+use lib.ListN.{getD, length, length-set, length-map}
 use Rattle.numbers.specs.Choice.{if_then_else_, _<?_}
 use Rattle.numbers.proofs.Choice.{chosen}
 use Rattle.numbers.specs.Bits.{bit}
-use Rattle.dsp.specs.Machine.{noVoice, apart, together}
-use Rattle.dsp.specs.Fit.{FitVoice, FitGlob, Fit}
-use Rattle.dsp.specs.Registers.{turns, resets, silenceVoice, silenceAll, writeParts, writeAt}
-use Rattle.dsp.specs.Sheet.{laneAt}
-use Rattle.dsp.specs.Echo.{EchoLane, echoTick, echoWritten, echoStored, echoFrom, echoLane}
-use Rattle.dsp.specs.Lane.{Cell, ownCell, shownCell, putBytes, turned}
-use Rattle.dsp.specs.Tick.{Round, turn, voicesTick, globTick, sharedFrom, sharedOf, mixed, tickOf, Bench, onward, benchTick, benchWrite, ticksOf, startOf}
+use Rattle.numbers.specs.Listed.{turns}
+use Rattle.dsp.specs.Machine.{noVoice, apart, together, Globals}
+use Rattle.dsp.specs.Fit.{delayRule, Facts, FitVoice, FitGlobals, Fit}
+use Rattle.dsp.specs.Keys.{silenced}
+use Rattle.dsp.specs.Ram.{storedFrom}
+use Rattle.dsp.specs.Registers.{resets, writeParts, writeAt}
+use Rattle.dsp.specs.Mix.{Stereo}
+use Rattle.dsp.specs.Sheet.{pairBytes, laneAt}
+use Rattle.dsp.specs.Echo.{echoBase, EchoLane, echoTick, echoWritten, echoFrom, echoLane}
+use Rattle.dsp.specs.Lane.{Cell, ownCell, shownCell, putBytes, turned, Shared}
+use Rattle.dsp.specs.Tick.{Round, turn, voicesTick, globalsTick, sharedOf, mixed, tickOf, startOf}
+use Rattle.dsp.specs.Ticks.{Bench, onward, benchTick, benchWrite, ticksOf}
 use Rattle.dsp.specs.declared.voice.Voice.{Voice}
-use Rattle.dsp.specs.declared.lane.Shared.{Shared}
 use Rattle.dsp.specs.declared.registers.Dsp.{Dsp}
-use Rattle.dsp.specs.declared.registers.Glob.{Glob}
-use Rattle.dsp.specs.declared.mix.Stereo.{Stereo}
 use Rattle.dsp.specs.declared.tick.Work.{Work}
-use Rattle.dsp.proofs.Turns.{turns-keep, set-keeps}
+use Rattle.numbers.proofs.Turns.{turns-keep, set-keeps}
 use Rattle.dsp.proofs.Fits.{fit-kept-write}
 use Rattle.dsp.proofs.Envelopes.{fit-kept-noise}
 use Rattle.dsp.proofs.Echoes.{fit-kept-echo}
@@ -35,8 +37,8 @@ pub record RoundFit (r : Round) : Type 0 where
   pub bytes : length (r .bytes) ≡ 128
   pub count : length (r .voices) ≡ 8
   pub waits : length (r .delays) ≡ 8
-  pub voices : (n : ℕ) → n < 8 → FitVoice (getD (r .voices) n noVoice)
-  pub delays : (n : ℕ) → n < 8 → getD (r .delays) n 0 ≤ 5
+  pub voices : (n : ℕ) → FitVoice (getD (r .voices) n noVoice)
+  pub delays : (n : ℕ) → Facts (delayRule (getD (r .delays) n 0))
 
 put-sized : (j envx : ℕ) (out : ℤ) (endx : Bool) (bytes : List ℕ) → length (putBytes j envx out endx bytes) ≡ length bytes
 unfolding putBytes
@@ -49,14 +51,14 @@ fit-kept-turn mask old c ram j r l h =
     let d = getD (r .delays) j 0 in
     let b = r .bytes in
     let w = bit mask j in
-    let x : Cell = if w then ownCell c ram j (r .acc .prev) v d b else shownCell (laneAt j old) v d in
-    let k = fit-kept-either w c ram j (r .acc .prev) v d b (laneAt j old) (h .voices j l) (h .delays j l) in
+    let x : Cell = if w then ownCell c ram j (r .sums .prev) v d b else shownCell (laneAt j old) v d in
+    let k = fit-kept-either w c ram j (r .sums .prev) v d b (laneAt j old) (h .voices j) (h .delays j .0) in
     record {
       bytes = put-sized j (x .envx) (x .out) (x .endx) b ∙ h .bytes;
       count = length-set (r .voices) j (x .voice) ∙ h .count;
       waits = length-set (r .delays) j (x .delay) ∙ h .waits;
-      voices = λ n m. set-keeps FitVoice noVoice (r .voices) j (x .voice) (k .voice) n (h .voices n m);
-      delays = λ n m. set-keeps (λ (e : ℕ). e ≤ 5) 0 (r .delays) j (x .delay) (k .delay) n (h .delays n m);
+      voices = λ n. set-keeps FitVoice noVoice (r .voices) j (x .voice) (k .voice) n (h .voices n);
+      delays = λ n. set-keeps (λ (e : ℕ). Facts (delayRule e)) 0 (r .delays) j (x .delay) (k .delay, tt) n (h .delays n);
     }
 
 pub fit-kept-turns : (mask : ℕ) (old : List ℕ) (c : Shared) (ram : List ℕ) (n : ℕ) (r : Round) → n ≤ 8 → RoundFit r → RoundFit (turns (turn mask old c ram) n r)
@@ -64,82 +66,62 @@ fit-kept-turns mask old c ram n r l h = turns-keep RoundFit (turn mask old c ram
 
 -- ---- the machine
 
-pub glob-kept : (g : Glob) → FitGlob g → FitGlob (globTick g)
-unfolding globTick
-glob-kept g h =
-    let n = fit-kept-noise (g .flg) (g .noise) (record { lfsr = h .lfsr; counter = h .counter }) in
-    record {
-      counter = n .counter;
-      lfsr = n .lfsr;
-      delay = h .delay;
-      even = h .even;
-      pages = h .pages;
-      most = h .most;
-      pairs = h .pairs;
-      within = h .within;
-    }
+pub globals-kept : (g : Globals) → FitGlobals g → FitGlobals (globalsTick g)
+unfolding globalsTick
+globals-kept g h = let n = fit-kept-noise (g .flg) (g .noise) (h .1 .0) (h .0) in (n .1, (n .0, h .1 .1))
 
-written-sized : (g : Glob) (ram : List ℕ) (l r : ℤ) → length (echoWritten g ram l r) ≡ length ram
-unfolding echoWritten echoStored
-written-sized g ram l r = chosen (λ (xs : List ℕ). length xs ≡ length ram) (bit (g .flg) 5) refl (simp length-set)
+stored-sized : (a : ℕ) (xs ram : List ℕ) → length (storedFrom a xs ram) ≡ length ram
+unfolding storedFrom
+stored-sized a [] ram = refl
+stored-sized a (x ∷ xs) ram = stored-sized (a + 1) xs _ ∙ length-set ram _ x
+
+written-sized : (g : Globals) (ram : List ℕ) (l r : ℤ) → length (echoWritten g ram l r) ≡ length ram
+unfolding echoWritten
+written-sized g ram l r = chosen (λ (xs : List ℕ). length xs ≡ length ram) (bit (g .flg) 5) refl (stored-sized (echoBase g) (pairBytes l r) ram)
 
 -- RAM keeps its length, and the echo's numbers stay fit
 pub record EchoFit (size : ℕ) (e : EchoLane) : Type 0 where
   pub ram : length (e .echo .ram) ≡ size
-  pub glob : FitGlob (e .echo .glob)
+  pub globals : FitGlobals (e .echo .globals)
 
-pub fit-kept-echo-lane : (worked : Bool) (g : Glob) (taps left right : List ℤ) (ram : List ℕ) (input : Stereo) (slot : List ℕ) → FitGlob g
+pub fit-kept-echo-lane : (worked : Bool) (g : Globals) (taps left right : List ℤ) (ram : List ℕ) (input : Stereo) (slot : List ℕ) → FitGlobals g
     → EchoFit (length ram) (echoLane worked g taps left right ram input slot)
 unfolding echoLane echoTick echoFrom
 fit-kept-echo-lane worked g taps left right ram input slot f =
     chosen (EchoFit (length ram)) worked
-    (record { ram = written-sized _ _ _ _; glob = fit-kept-echo _ _ _ f })
-    (record {
-      ram = refl;
-      glob =
-          record {
-            counter = f .counter;
-            lfsr = f .lfsr;
-            delay = f .delay;
-            even = f .even;
-            pages = f .pages;
-            most = f .most;
-            pairs = f .pairs;
-            within = f .within;
-          };
-    })
+    (record { ram = written-sized _ _ _ _; globals = fit-kept-echo _ _ _ f })
+    (record { ram = refl; globals = f })
 
 pub record BenchFit (b : Bench) : Type 0 where
   pub ram : length (b .ram) ≡ 0x10000
   pub round : RoundFit (startOf (b .parts))
-  pub glob : FitGlob (b .parts .glob)
+  pub globals : FitGlobals (b .parts .globals)
 
 -- the parts of a tick make it
-pub glued : (w : Work) (b : Bench) (h : Glob) (c : Shared) (r : Round) (e : EchoLane) → h ≡ globTick (b .parts .glob)
-    → c ≡ sharedFrom (b .parts .glob) (h .noise) (getD (b .parts .registers) 0x5C 0) (getD (b .parts .registers) 0x5D 0)
+pub glued : (w : Work) (b : Bench) (h : Globals) (c : Shared) (r : Round) (e : EchoLane) → h ≡ globalsTick (b .parts .globals)
+    → c ≡ sharedOf (b .parts .globals) (b .parts .registers)
     → r ≡ turns (turn (w .voices) (b .old) c (b .ram)) 8 (startOf (b .parts))
-    → e ≡ echoLane (w .echo) h (b .parts .taps) (b .parts .left) (b .parts .right) (b .ram) (r .acc .input) (laneAt 8 (b .old))
+    → e ≡ echoLane (w .echo) h (b .parts .taps) (b .parts .left) (b .parts .right) (b .ram) (r .sums .input) (laneAt 8 (b .old))
     → onward b (mixed (b .parts .taps) r e) ≡ benchTick w b
-unfolding benchTick tickOf voicesTick globTick
+unfolding benchTick tickOf voicesTick
 glued w b h c r e eh ec er ee =
     let p = b .parts in
-    let ec′ = ec ∙ (λ i. sharedFrom (p .glob) (eh i .noise) (getD (p .registers) 0x5C 0) (getD (p .registers) 0x5D 0)) in
-    let er′ = er ∙ (λ i. turns (turn (w .voices) (b .old) (ec′ i) (b .ram)) 8 (startOf p)) in
-    let ee′ = ee ∙ (λ i. echoLane (w .echo) (eh i) (p .taps) (p .left) (p .right) (b .ram) (er′ i .acc .input) (laneAt 8 (b .old))) in
+    let er′ = er ∙ (λ i. turns (turn (w .voices) (b .old) (ec i) (b .ram)) 8 (startOf p)) in
+    let ee′ = ee ∙ (λ i. echoLane (w .echo) (eh i) (p .taps) (p .left) (p .right) (b .ram) (er′ i .sums .input) (laneAt 8 (b .old))) in
     λ i. onward b (mixed (p .taps) (er′ i) (ee′ i))
 
 pub fit-kept-bench : (w : Work) (b : Bench) → BenchFit b → BenchFit (benchTick w b)
 unfolding benchTick tickOf voicesTick
 fit-kept-bench w b h =
     let p = b .parts in
-    let c = sharedOf (p .glob) (p .registers) in
+    let c = sharedOf (p .globals) (p .registers) in
     let t = turns (turn (w .voices) (b .old) c (b .ram)) 8 (startOf p) in
     let r = fit-kept-turns (w .voices) (b .old) c (b .ram) 8 (startOf p) (omega arith) (h .round) in
-    let e = fit-kept-echo-lane (w .echo) (globTick (p .glob)) (p .taps) (p .left) (p .right) (b .ram) (t .acc .input) (laneAt 8 (b .old)) (glob-kept (p .glob) (h .glob)) in
+    let e = fit-kept-echo-lane (w .echo) (globalsTick (p .globals)) (p .taps) (p .left) (p .right) (b .ram) (t .sums .input) (laneAt 8 (b .old)) (globals-kept (p .globals) (h .globals)) in
     record {
       ram = e .ram ∙ h .ram;
       round = record { bytes = r .bytes; count = r .count; waits = r .waits; voices = r .voices; delays = r .delays };
-      glob = e .glob;
+      globals = e .globals;
     }
 
 pub fit-kept-ticks : (w : Work) (n : ℕ) (b : Bench) → BenchFit b → BenchFit (ticksOf w n b)
@@ -149,13 +131,13 @@ fit-kept-ticks w (suc n) b h = fit-kept-bench w (ticksOf w n b) (fit-kept-ticks 
 
 -- the record of fit parts is fit
 pub bench-fit : (b : Bench) → BenchFit b → Fit (together (b .parts))
-bench-fit b h = record { glob = h .glob; voices = h .round .voices; delays = h .round .delays }
+bench-fit b h = record { globals = h .globals; voices = h .round .voices; delays = h .round .delays }
 
 -- and the other way: the arrays of a record of the language have these lengths
 pub fit-bench : (d : Dsp) (ram pcm sheet old : List ℕ) → length ram ≡ 0x10000 → length (d .registers) ≡ 128 → length (d .voices) ≡ 8 → length (d .«kon_delay») ≡ 8 → Fit d
     → BenchFit (record { parts = apart d; ram = ram; pcm = pcm; sheet = sheet; old = old })
 fit-bench d ram pcm sheet old lr lb lv ld h =
-    record { ram = lr; round = record { bytes = lb; count = lv; waits = ld; voices = h .voices; delays = h .delays }; glob = h .glob }
+    record { ram = lr; round = record { bytes = lb; count = lv; waits = ld; voices = h .voices; delays = h .delays }; globals = h .globals }
 
 -- a tick of a fit record leaves a fit one
 pub fit-kept-tick : (w : Work) (d : Dsp) (ram old : List ℕ) → length ram ≡ 0x10000 → length (d .registers) ≡ 128 → length (d .voices) ≡ 8 → length (d .«kon_delay») ≡ 8 → Fit d
@@ -166,10 +148,6 @@ fit-kept-tick w d ram old lr lb lv ld h =
     bench-fit (benchTick w b) (fit-kept-bench w b (fit-bench d ram [] [] old lr lb lv ld h))
 
 -- ---- a register write between ticks
-
-silenced-count : (vs : List Voice) → length vs ≡ 8 → length (silenceAll vs) ≡ 8
-unfolding silenceAll silenceVoice
-silenced-count vs e = turns-keep (λ (l : List Voice). length l ≡ 8) silenceVoice 8 (λ n l m h. length-set l n _ ∙ h) 8 vs (omega arith) e
 
 abbrev Count8 : List Voice → Type 0
 Count8 l = length l ≡ 8
@@ -187,10 +165,10 @@ fit-kept-bench-write i x b li lx h =
             bytes = chosen (λ (l : List ℕ). length l ≡ 128) (resets i x) (simp length-set (h .round .bytes)) (simp length-set (h .round .bytes));
             count =
                 chosen Count8 (i % 16 <? 8) (length-set (p .voices) (i / 16) _ ∙ h .round .count)
-                (chosen Count8 (resets i x) (silenced-count (p .voices) (h .round .count)) (h .round .count));
+                (chosen Count8 (resets i x) (length-map (p .voices) silenced ∙ h .round .count) (h .round .count));
             waits = h .round .waits;
             voices = f .voices;
             delays = f .delays;
           };
-      glob = f .glob;
+      globals = f .globals;
     }

@@ -1,22 +1,23 @@
 -- Laws of register writes, by the kind of register.
-use mathlib.Core.Bool.{Bool, true, false, _&&_, _||_}
-use mathlib.Core.List.{List, [], _∷_}
+use mathlib.Core.Bool.{Bool, true, false, _||_}
+use mathlib.Core.List.{List, [], _∷_, map}
 use mathlib.Core.Path.{_≡_, refl}
 use Prim.Native.Nat.{ℕ, _/_, _%_, _≤_, _<_}
-use native.Mathlib.Decide.{decLe, ℕ-discrete}
+use native.Mathlib.Decide.{ℕ-discrete}
 use native.Mathlib.Omega.{arith}
 use lib.IntN.{ℤ, pos}
 use lib.ListN.{getD, set}
 use lib.Dec.{eqb}
-use borrow.Author.Tests.{lt-ltb, le-ltb, le-leb, lt-leb, eq-eqb, ne-eqb}
-use Rattle.numbers.specs.Choice.{if_then_else_, _≤?_, _=?_}
+use borrow.Author.Tests.{lt-ltb, le-ltb, eq-eqb, ne-eqb}
+use Rattle.numbers.specs.Choice.{_=?_}
 use Rattle.numbers.specs.Signed.{cutZ}
 use Rattle.numbers.proofs.Choice.{chosen}
-use Rattle.dsp.specs.Machine.{noVoice, globOf, together, withGlob}
-use Rattle.dsp.specs.Registers.{at, writeVoice, globWrite, endxWrite, silenceAll, writeParts, writeAt}
+use Rattle.dsp.specs.Machine.{noVoice, globalsOf, together, Globals}
+use Rattle.dsp.specs.Keys.{silenced}
+use Rattle.dsp.specs.Registers.{at, writeVoice, resets, globalsAfter, endxWrite, writeParts, writeAt}
+use Rattle.dsp.specs.Inside.{withGlobals}
 use Rattle.dsp.specs.declared.voice.Voice.{Voice}
 use Rattle.dsp.specs.declared.registers.Dsp.{Dsp}
-use Rattle.dsp.specs.declared.registers.Glob.{Glob}
 
 -- ---- numbers that are none of a list
 
@@ -42,7 +43,7 @@ none-eqb (q ∷ rs) i h r t =
 abbrev pub globals : List ℕ
 globals = 0x6C ∷ 0x7D ∷ 0x6D ∷ 0x4D ∷ 0x0D ∷ 0x3C ∷ 0x2C ∷ 0x2D ∷ 0x3D ∷ 0x5D ∷ 0x1C ∷ 0x0C ∷ 0x4C ∷ []
 
-pub glob-kept : (i x : ℕ) (g : Glob) → NoneOf globals i → globWrite i x g ≡ g
+pub glob-kept : (i x : ℕ) (g : Globals) → NoneOf globals i → globalsAfter i x g ≡ g
 glob-kept i x g h = let e = none-eqb globals i h in simp e
 
 -- $7C takes its byte as any register does
@@ -62,7 +63,7 @@ stored i x voices taps d =
       taps = taps;
       left = d .«fir_history_l»;
       right = d .«fir_history_r»;
-      glob = globOf d;
+      globals = globalsOf d;
     })
 
 pub voice-write : (i x : ℕ) (d : Dsp) → i % 16 < 8
@@ -87,34 +88,22 @@ reset d =
     together
     (record {
       registers = set (d .registers) 0x7C 0;
-      voices = silenceAll (d .voices);
+      voices = map silenced (d .voices);
       delays = d .«kon_delay»;
       taps = d .«fir_coeff»;
       left = d .«fir_history_l»;
       right = d .«fir_history_r»;
-      glob = globOf d;
+      globals = globalsOf d;
     })
 
-abbrev pub globWritten : ℕ → ℕ → Dsp → Dsp
-globWritten i x d = withGlob d (globWrite i x (globOf d))
+abbrev pub globalsWritten : ℕ → ℕ → Dsp → Dsp
+globalsWritten i x d = withGlobals d (globalsAfter i x (globalsOf d))
 
-global-write : (i x : ℕ) (d : Dsp) → 8 ≤ i % 16 → (i % 16 ≡ 15 → ⊥)
-    → let e = globWritten i x (stored i x (d .voices) (d .«fir_coeff») d) in writeAt i x d ≡ (if (i =? 0x6C) && (0x80 ≤? x) then reset e else e)
+pub plain-write : (i x : ℕ) (d : Dsp) → 8 ≤ i % 16 → (i % 16 ≡ 15 → ⊥) → resets i x ≡ false → writeAt i x d ≡ globalsWritten i x (stored i x (d .voices) (d .«fir_coeff») d)
 unfolding writeAt writeParts
-global-write i x d v f =
-    elim (ℕ-discrete i 0x6C) [
-      | yes e ↦
-          elim (decLe 0x80 x) [
-            | yes l ↦ rw (le-ltb _ _ v, ne-eqb _ _ f, eq-eqb _ _ e, le-leb _ _ l)
-            | no l ↦ let k : x < 0x80 = omega arith in rw (le-ltb _ _ v, ne-eqb _ _ f, eq-eqb _ _ e, lt-leb _ _ k, endx-as-any)
-          ]
-      | no e ↦ rw (le-ltb _ _ v, ne-eqb _ _ f, ne-eqb _ _ e, endx-as-any)
-    ]
+plain-write i x d v f t = rw (le-ltb _ _ v, ne-eqb _ _ f, t, endx-as-any)
 
-pub plain-write : (i x : ℕ) (d : Dsp) → 8 ≤ i % 16 → (i % 16 ≡ 15 → ⊥) → (i =? 0x6C) && (0x80 ≤? x) ≡ false
-    → writeAt i x d ≡ globWritten i x (stored i x (d .voices) (d .«fir_coeff») d)
-plain-write i x d v f t = rw t at (global-write i x d v f)
-
-pub reset-write : (i x : ℕ) (d : Dsp) → 8 ≤ i % 16 → (i % 16 ≡ 15 → ⊥) → (i =? 0x6C) && (0x80 ≤? x) ≡ true
-    → writeAt i x d ≡ reset (globWritten i x (stored i x (d .voices) (d .«fir_coeff») d))
-reset-write i x d v f t = rw t at (global-write i x d v f)
+pub reset-write : (i x : ℕ) (d : Dsp) → 8 ≤ i % 16 → (i % 16 ≡ 15 → ⊥) → resets i x ≡ true
+    → writeAt i x d ≡ reset (globalsWritten i x (stored i x (d .voices) (d .«fir_coeff») d))
+unfolding writeAt writeParts
+reset-write i x d v f t = rw (le-ltb _ _ v, ne-eqb _ _ f, t)

@@ -1,26 +1,13 @@
--- BRR: bytes of RAM at addresses that wrap, and the 16 samples of a block.
+-- BRR: a block, which is a header and eight bytes, and its 16 samples.
 use mathlib.Core.Bool.{Bool}
 use mathlib.Core.List.{List}
-use Prim.Native.Nat.{ℕ, zero, suc, _+_, _*_, _/_, _%_}
+use Prim.Native.Nat.{ℕ, zero, suc, _+_, _/_, _%_}
 use lib.IntN.{ℤ, pos}
-use lib.ListN.{getD}
 use Rattle.numbers.specs.Listed.{listed}
 use Rattle.numbers.specs.Choice.{if_then_else_, _=?_}
-use Rattle.numbers.specs.Unsigned.{wrapped}
+use Rattle.dsp.specs.Ram.{byteAt}
 -- what the public decode_brr_nibble gives
 pub use Rattle.sound.specs.Brr.{decodeNibble}
-
--- ---- RAM
-
--- every byte address in RAM wraps at 65,536
-unfoldable pub byteAt : List ℕ → ℕ → ℕ
-byteAt ram a = getD ram (wrapped a) 0
-
--- 16 bits, low byte first
-unfoldable pub wordAt : List ℕ → ℕ → ℕ
-wordAt ram a = byteAt ram a + 0x100 * byteAt ram (a + 1)
-
--- ---- a block: a header and eight bytes
 
 -- header: shift bits 7-4, filter 3-2, loop 1, end 0
 abbrev pub shiftOf : ℕ → ℕ
@@ -58,7 +45,7 @@ newest ram a p1 p2 (suc k) =
       prev2 = newest ram a p1 p2 k .prev1;
     }
 
-pub record Decoded : Type 0 where
+pub record DecodedBlock : Type 0 where
   pub samples : List ℤ
   pub prev1 : ℤ
   pub prev2 : ℤ
@@ -66,7 +53,7 @@ pub record Decoded : Type 0 where
   pub loops : Bool
 
 -- sample k is the newest one after nibble k
-unfoldable pub decodeBlock : List ℕ → ℕ → ℤ → ℤ → Decoded
+unfoldable pub decodeBlock : List ℕ → ℕ → ℤ → ℤ → DecodedBlock
 decodeBlock ram a p1 p2 =
     record {
       samples = listed (λ k. newest ram a p1 p2 (suc k) .prev1) 16;

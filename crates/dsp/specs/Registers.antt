@@ -1,27 +1,22 @@
 -- Register writes: what each register changes. A rule for each field says when it takes the value.
-use mathlib.Core.Bool.{Bool, false}
-use mathlib.Core.List.{List}
-use Prim.Native.Nat.{ℕ, zero, suc, _*_, _/_, _%_}
+use mathlib.Core.Bool.{Bool, _&&_}
+use mathlib.Core.List.{List, map}
+use Prim.Native.Nat.{ℕ, _*_, _/_, _%_}
 use lib.IntN.{ℤ, pos}
 use lib.ListN.{getD, set}
-use Rattle.numbers.specs.Choice.{if_then_else_, _≤?_, _<?_, _=?_}
+use Rattle.numbers.specs.Choice.{if_then_else_, _<?_, _=?_}
 use Rattle.numbers.specs.Signed.{cutZ}
 use Rattle.numbers.specs.Unsigned.{withLow, withHigh}
-use Rattle.dsp.specs.Machine.{noVoice, Parts, apart, together}
+use Rattle.numbers.specs.Bits.{bit}
+use Rattle.dsp.specs.Machine.{Globals, Parts, noVoice, apart, together}
 use Rattle.dsp.specs.Fit.{fit}
-use Rattle.dsp.specs.declared.adsr.EnvelopePhase.the-variants.{Off}
+use Rattle.dsp.specs.Keys.{silenced}
 use Rattle.dsp.specs.declared.voice.Voice.{Voice}
 use Rattle.dsp.specs.declared.registers.Dsp.{Dsp}
-use Rattle.dsp.specs.declared.registers.Glob.{Glob}
 
 -- the new value where the register is the one named, else the old
 abbrev pub at : {A : Type 0} → ℕ → ℕ → A → A → A
 at i register new old = if i =? register then new else old
-
--- f at 0, 1, .. n - 1, in that order
-unfoldable pub turns : {A : Type 0} → (ℕ → A → A) → ℕ → A → A
-turns f zero a = a
-turns f (suc n) a = f n (turns f n a)
 
 -- ---- a voice's own registers, by the low digit of their number
 
@@ -38,7 +33,7 @@ writeVoice i x v =
       history = v .history;
       adsr =
           record {
-            «adsr_mode» = at i 5 (0x80 ≤? x) (v .adsr .«adsr_mode»);
+            «adsr_mode» = at i 5 (bit x 7) (v .adsr .«adsr_mode»);
             «gain_param» = at i 7 x (v .adsr .«gain_param»);
             «attack_rate» = at i 5 (x % 16) (v .adsr .«attack_rate»);
             «decay_rate» = at i 5 (x / 16 % 8) (v .adsr .«decay_rate»);
@@ -54,61 +49,27 @@ writeVoice i x v =
 -- ---- RESET: a $6C value with bit 7 silences every voice and clears ENDX
 
 abbrev pub resets : ℕ → ℕ → Bool
-resets i x =
-    if i =? 0x6C then 0x80 ≤? x else
-    false
-
-abbrev pub silenced : Voice → Voice
-silenced v =
-    record {
-      «left_vol» = v .«left_vol»;
-      «right_vol» = v .«right_vol»;
-      pitch = v .pitch;
-      srcn = v .srcn;
-      «key_on» = false;
-      «pitch_counter» = v .«pitch_counter»;
-      «current_sample» = v .«current_sample»;
-      history = v .history;
-      adsr =
-          record {
-            «adsr_mode» = v .adsr .«adsr_mode»;
-            «gain_param» = v .adsr .«gain_param»;
-            «attack_rate» = v .adsr .«attack_rate»;
-            «decay_rate» = v .adsr .«decay_rate»;
-            «sustain_level» = v .adsr .«sustain_level»;
-            «sustain_rate» = v .adsr .«sustain_rate»;
-            «envelope_level» = 0;
-            «envelope_phase» = Off;
-            «tick_counter» = v .adsr .«tick_counter»;
-          };
-      brr = v .brr;
-    }
-
-unfoldable pub silenceVoice : ℕ → List Voice → List Voice
-silenceVoice n vs = set vs n (silenced (getD vs n noVoice))
-
-unfoldable pub silenceAll : List Voice → List Voice
-silenceAll vs = turns silenceVoice 8 vs
+resets i x = (i =? 0x6C) && bit x 7
 
 -- ---- the global registers
 
-abbrev pub globWrite : ℕ → ℕ → Glob → Glob
-globWrite i x g =
+abbrev pub globalsAfter : ℕ → ℕ → Globals → Globals
+globalsAfter i x g =
     record {
-      «dir_base» = at i 0x5D (x) (g .«dir_base»);
+      «dir_base» = at i 0x5D x (g .«dir_base»);
       «master_vol_left» = at i 0x0C (cutZ 0x80 (pos x)) (g .«master_vol_left»);
       «master_vol_right» = at i 0x1C (cutZ 0x80 (pos x)) (g .«master_vol_right»);
-      flg = at i 0x6C (x) (g .flg);
-      «new_kon» = at i 0x4C (x) (g .«new_kon»);
+      flg = at i 0x6C x (g .flg);
+      «new_kon» = at i 0x4C x (g .«new_kon»);
       «every_other_sample» = g .«every_other_sample»;
-      non = at i 0x3D (x) (g .non);
+      non = at i 0x3D x (g .non);
       pmon = at i 0x2D (x / 2 * 2) (g .pmon);
       noise = g .noise;
       «echo_vol_left» = at i 0x2C (cutZ 0x80 (pos x)) (g .«echo_vol_left»);
       «echo_vol_right» = at i 0x3C (cutZ 0x80 (pos x)) (g .«echo_vol_right»);
       efb = at i 0x0D (cutZ 0x80 (pos x)) (g .efb);
-      eon = at i 0x4D (x) (g .eon);
-      esa = at i 0x6D (x) (g .esa);
+      eon = at i 0x4D x (g .eon);
+      esa = at i 0x6D x (g .esa);
       edl = at i 0x7D (x % 16) (g .edl);
       «echo_ptr» = g .«echo_ptr»;
       «echo_len» = g .«echo_len»;
@@ -130,7 +91,7 @@ bytesAfter i x bytes =
 abbrev pub voicesAfter : ℕ → ℕ → List Voice → List Voice
 voicesAfter i x vs =
     if i % 16 <? 8 then set vs (i / 16) (writeVoice (i % 16) x (getD vs (i / 16) noVoice)) else
-    if resets i x then silenceAll vs else
+    if resets i x then map silenced vs else
     vs
 
 abbrev pub tapsAfter : ℕ → ℕ → List ℤ → List ℤ
@@ -147,7 +108,7 @@ writeParts i x p =
       taps = tapsAfter i x (p .taps);
       left = p .left;
       right = p .right;
-      glob = globWrite i x (p .glob);
+      globals = globalsAfter i x (p .globals);
     }
 
 unfoldable pub writeAt : ℕ → ℕ → Dsp → Dsp

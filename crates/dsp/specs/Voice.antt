@@ -1,178 +1,108 @@
--- One voice for one tick: envelope; idle return; resolve and decode; pitch; consume; interpolate; ENVX.
-use mathlib.Core.Bool.{Bool, false, not, _&&_, _||_}
-use mathlib.Core.List.{List, [], _∷_}
-use mathlib.Core.Logic.{_⊎_}
-use mathlib.Core.Path.{_≡_}
-use Prim.Native.Nat.{ℕ, zero, suc, _+_, _-_, _*_, _/_, _%_, _≤_}
-use lib.IntN.{ℤ, pos, natAbs, _+ℤ_, _*ℤ_}
+-- One voice for one tick that does not skip it: envelope; idle return; resolve and decode; pitch; consume; interpolate; ENVX.
+use mathlib.Core.Bool.{Bool, not, _&&_, _||_}
+use mathlib.Core.List.{List}
+use Prim.Native.Nat.{ℕ, zero, suc, _+_, _-_, _/_, _%_}
+use lib.IntN.{ℤ, pos, _+ℤ_, _*ℤ_}
 use lib.ListN.{getD}
 use Rattle.numbers.specs.Choice.{if_then_else_, _=?_}
-use Rattle.numbers.specs.Signed.{_>>_}
+use Rattle.numbers.specs.Listed.{movedOn}
+use Rattle.numbers.specs.Signed.{natural, _>>_}
 use Rattle.numbers.specs.Unsigned.{wrapped, least}
-use Rattle.dsp.specs.Brr.{wordAt, Decoded, decodeBlock}
-use Rattle.dsp.specs.Gauss.{interpolateZ}
-use Rattle.dsp.specs.Envelope.{FitEnvelope, isOff, envelopeTick}
-use Rattle.dsp.specs.declared.adsr.EnvelopePhase.the-variants.{Off}
-use Rattle.dsp.specs.declared.adsr.Envelope.{Envelope}
-use Rattle.dsp.specs.declared.adsr.Settings.{Settings}
-use Rattle.dsp.specs.declared.play.Source.{Source}
-use Rattle.dsp.specs.declared.play.Source.the-variants.{Unmodulated, From}
-use Rattle.dsp.specs.declared.play.Play.{Play}
+use Rattle.dsp.specs.With.{withEnvelope, withPosition, withSample, withBrr, withNibble}
+use Rattle.dsp.specs.Envelope.{isOff, envelopeTick}
+use Rattle.dsp.specs.Keys.{silenced}
+use Rattle.dsp.specs.Ram.{wordAt, entryOf}
+use Rattle.dsp.specs.Brr.{DecodedBlock, decodeBlock}
+use Rattle.dsp.specs.Interpolation.{interpolateZ}
+use Rattle.dsp.specs.declared.brr.Brr.{Brr}
+use Rattle.dsp.specs.declared.voice.Voice.{Voice}
 
--- what moves in a voice, with the samples of its block
+-- a voice in its tick, with its ENDX bit
 pub record Sounding : Type 0 where
-  pub play : Play
-  pub samples : List ℤ
-
-pub record FitBlock (p : Play) : Type 0 where
-  pub nibble : p .«nibble_idx» ≤ 15
-  pub fill : (p .«buffer_fill» ≡ 0) ⊎ (p .«buffer_fill» ≡ 16)
-
-pub record FitPlay (p : Play) : Type 0 where
-  pub envelope : FitEnvelope (p .envelope)
-  pub position : p .«pitch_counter» ≤ 0x7FFF
-  pub block : FitBlock p
-
--- ---- the same but for some of its numbers
-
-abbrev pub withKey : Play → Bool → Envelope → Play
-withKey p on envelope =
-    record {
-      «key_on» = on;
-      envelope = envelope;
-      addr = p .addr;
-      «nibble_idx» = p .«nibble_idx»;
-      «buffer_fill» = p .«buffer_fill»;
-      prev1 = p .prev1;
-      prev2 = p .prev2;
-      «block_end» = p .«block_end»;
-      «pitch_counter» = p .«pitch_counter»;
-      «current_sample» = p .«current_sample»;
-      history = p .history;
-      endx = p .endx;
-    }
-
-abbrev pub withEnvelope : Play → Envelope → Play
-withEnvelope p e = withKey p (p .«key_on») e
-
-abbrev withTone : Play → ℕ → ℤ → Play
-withTone p position sample =
-    record {
-      «key_on» = p .«key_on»;
-      envelope = p .envelope;
-      addr = p .addr;
-      «nibble_idx» = p .«nibble_idx»;
-      «buffer_fill» = p .«buffer_fill»;
-      prev1 = p .prev1;
-      prev2 = p .prev2;
-      «block_end» = p .«block_end»;
-      «pitch_counter» = position;
-      «current_sample» = sample;
-      history = p .history;
-      endx = p .endx;
-    }
-
-abbrev pub withPosition : Play → ℕ → Play
-withPosition p position = withTone p position (p .«current_sample»)
-
-abbrev pub withSample : Play → ℤ → Play
-withSample p x = withTone p (p .«pitch_counter») x
+  pub voice : Voice
+  pub endx : Bool
 
 -- ---- pitch
 
--- modulated pitch: b + (((x >> 5) · b) >> 10), never negative where x has 16 bits (`pitch-is`)
-unfoldable pub pitchOf : ℕ → Source → ℕ
-pitchOf b Unmodulated = b
-pitchOf b (From x) = natAbs (pos b +ℤ (((x >> 5) *ℤ pos b) >> 10))
+-- what modulates a voice's pitch in this tick
+pub data PitchSource : Type 0 where
+  plain : PitchSource
+  modulatedBy : ℤ → PitchSource
+
+-- modulated pitch: b + (((x >> 5) · b) >> 10), never negative where x has 16 bits (`pitch-nat`)
+unfoldable pub pitchOf : ℕ → PitchSource → ℤ
+pitchOf b plain = pos b
+pitchOf b (modulatedBy x) = pos b +ℤ (((x >> 5) *ℤ pos b) >> 10)
 
 -- position: (old modulo $4000) + pitch, cap $7FFF
-unfoldable pub positionOf : Play → ℕ → Source → ℕ
-positionOf p pitch x = least (p .«pitch_counter» % 0x4000 + pitchOf pitch x) 0x7FFF
+unfoldable pub positionOf : PitchSource → Voice → ℕ
+positionOf x v = least (v .«pitch_counter» % 0x4000 + natural (pitchOf (v .pitch) x)) 0x7FFF
 
 -- samples taken are the difference of position >> 12
-unfoldable pub samplesTaken : Play → ℕ → Source → ℕ
-samplesTaken p pitch x = positionOf p pitch x / 0x1000 - p .«pitch_counter» % 0x4000 / 0x1000
+unfoldable pub samplesTaken : PitchSource → Voice → ℕ
+samplesTaken x v = positionOf x v / 0x1000 - v .«pitch_counter» % 0x4000 / 0x1000
 
 -- ---- blocks
 
--- level 0, Off, key_on clear
-unfoldable pub muted : Play → Play
-muted p = withKey p false (record { level = 0; phase = Off; counter = p .envelope .counter })
-
--- the block at a lies in the buffer; an end block sets ENDX
-unfoldable pub filled : ℕ → ℤ → ℤ → Bool → Play → Play
-filled a prev1 prev2 end p =
+-- the block at a lies in the buffer, which is full
+abbrev pub blockOf : ℕ → DecodedBlock → Brr
+blockOf a d =
     record {
-      «key_on» = p .«key_on»;
-      envelope = p .envelope;
       addr = a;
       «nibble_idx» = 0;
+      prev1 = d .prev1;
+      prev2 = d .prev2;
+      «block_end» = d .end;
+      «sample_buffer» = d .samples;
       «buffer_fill» = 16;
-      prev1 = prev1;
-      prev2 = prev2;
-      «block_end» = end;
-      «pitch_counter» = p .«pitch_counter»;
-      «current_sample» = p .«current_sample»;
-      history = p .history;
-      endx = p .endx || end;
     }
 
--- an end block without loop mutes the voice
-unfoldable pub placed : ℕ → ℤ → ℤ → Bool → Bool → Play → Play
-placed a prev1 prev2 end loops p =
-    if end && not loops then muted (filled a prev1 prev2 end p) else
-    filled a prev1 prev2 end p
+abbrev pub filled : ℕ → DecodedBlock → Voice → Voice
+filled a d v = withBrr v (v .history) (blockOf a d)
 
-abbrev pub withBlock : ℕ → Decoded → Play → Sounding
-withBlock a d p = record { play = placed a (d .prev1) (d .prev2) (d .end) (d .loops) p; samples = d .samples }
+-- an end block without loop: level 0, Off, key_on clear
+unfoldable pub placed : ℕ → DecodedBlock → Voice → Voice
+placed a d v =
+    if d .end && not (d .loops) then silenced (filled a d v) else
+    filled a d v
+
+-- an end block sets ENDX
+abbrev pub withBlock : ℕ → Sounding → DecodedBlock → Sounding
+withBlock a s d = record { voice = placed a d (s .voice); endx = s .endx || d .end }
 
 unfoldable pub decodedAt : List ℕ → ℕ → Sounding → Sounding
-decodedAt ram a s = withBlock a (decodeBlock ram a (s .play .prev1) (s .play .prev2)) (s .play)
-
--- the directory entry of a source: DIR · 256 + SRCN · 4; start address, then loop address
-abbrev pub entryOf : ℕ → ℕ → ℕ
-entryOf dir srcn = dir * 0x100 + srcn * 4
+decodedAt ram a s = withBlock a s (decodeBlock ram a (s .voice .brr .prev1) (s .voice .brr .prev2))
 
 -- after an end block the loop address, of DIR and SRCN of that moment; else 9 bytes on
-unfoldable pub nextAddress : List ℕ → ℕ → ℕ → Play → ℕ
-nextAddress ram dir srcn p =
-    if p .«block_end» then wordAt ram (entryOf dir srcn + 2) else
-    wrapped (p .addr + 9)
+unfoldable pub nextAddress : List ℕ → ℕ → ℕ → Brr → ℕ
+nextAddress ram dir srcn b =
+    if b .«block_end» then wordAt ram (entryOf dir srcn + 2) else
+    wrapped (b .addr + 9)
 
 unfoldable pub nextBlock : List ℕ → ℕ → ℕ → Sounding → Sounding
-nextBlock ram dir srcn s = decodedAt ram (nextAddress ram dir srcn (s .play)) s
+nextBlock ram dir srcn s = decodedAt ram (nextAddress ram dir srcn (s .voice .brr)) s
 
 -- resolve address and decode if fill is 0
 unfoldable pub resolved : List ℕ → Sounding → Sounding
 resolved ram s =
-    if s .play .«buffer_fill» =? 0 then decodedAt ram (wordAt ram (s .play .addr)) s else
+    if s .voice .brr .«buffer_fill» =? 0 then decodedAt ram (wordAt ram (s .voice .brr .addr)) s else
     s
 
 -- ---- samples, one by one
 
+-- the next sample of the block
+abbrev pub sampleNow : Brr → ℤ
+sampleNow b = getD (b .«sample_buffer») (b .«nibble_idx») (pos 0)
+
 -- a sample goes into the history of four, oldest first
-unfoldable pub pushed : ℤ → Play → Play
-pushed x p =
-    record {
-      «key_on» = p .«key_on»;
-      envelope = p .envelope;
-      addr = p .addr;
-      «nibble_idx» = p .«nibble_idx» + 1;
-      «buffer_fill» = p .«buffer_fill»;
-      prev1 = p .prev1;
-      prev2 = p .prev2;
-      «block_end» = p .«block_end»;
-      «pitch_counter» = p .«pitch_counter»;
-      «current_sample» = p .«current_sample»;
-      history = getD (p .history) 1 (pos 0) ∷ getD (p .history) 2 (pos 0) ∷ getD (p .history) 3 (pos 0) ∷ x ∷ [];
-      endx = p .endx;
-    }
+unfoldable pub pushed : Voice → Voice
+pushed v = withBrr v (movedOn (v .history) (sampleNow (v .brr))) (withNibble (v .brr) (v .brr .«nibble_idx» + 1))
 
 abbrev pub pushedNext : Sounding → Sounding
-pushedNext s = record { play = pushed (getD (s .samples) (s .play .«nibble_idx») (pos 0)) (s .play); samples = s .samples }
+pushedNext s = record { voice = pushed (s .voice); endx = s .endx }
 
 abbrev pub lastOf : Sounding → Bool
-lastOf s = s .play .«nibble_idx» =? 15
+lastOf s = s .voice .brr .«nibble_idx» =? 15
 
 -- one sample taken, and the block change after the sixteenth
 unfoldable pub takeOne : List ℕ → ℕ → ℕ → Sounding → Sounding
@@ -184,38 +114,37 @@ takeOne ram dir srcn s =
 unfoldable pub consume : List ℕ → ℕ → ℕ → ℕ → Sounding → Sounding
 consume ram dir srcn zero s = s
 consume ram dir srcn (suc n) s =
-    if lastOf s && not (takeOne ram dir srcn s .play .«key_on») then takeOne ram dir srcn s else
+    if lastOf s && not (takeOne ram dir srcn s .voice .«key_on») then takeOne ram dir srcn s else
     consume ram dir srcn n (takeOne ram dir srcn s)
 
--- ---- the tick
+-- ---- the step
 
 -- key_on is clear and phase Off
-abbrev pub idle : Play → Bool
-idle p = not (p .«key_on») && isOff (p .envelope .phase)
+abbrev pub idle : Voice → Bool
+idle v = not (v .«key_on») && isOff (v .adsr .«envelope_phase»)
 
 -- the position moves by the full pitch, then its samples are taken
-unfoldable pub advanced : List ℕ → ℕ → ℕ → ℕ → Source → Sounding → Sounding
-advanced ram dir srcn pitch x s =
-    consume ram dir srcn (samplesTaken (s .play) pitch x) (record { play = withPosition (s .play) (positionOf (s .play) pitch x); samples = s .samples })
+unfoldable pub advanced : List ℕ → ℕ → ℕ → PitchSource → Sounding → Sounding
+advanced ram dir srcn x s =
+    consume ram dir srcn (samplesTaken x (s .voice)) (record { voice = withPosition (s .voice) (positionOf x (s .voice)); endx = s .endx })
 
-unfoldable pub interpolated : Play → Play
-interpolated p = withSample p (interpolateZ (p .«pitch_counter») (p .history))
+unfoldable pub interpolated : Voice → Voice
+interpolated v = withSample v (interpolateZ (v .«pitch_counter») (v .history))
 
 pub record Stepped : Type 0 where
-  pub play : Play
-  pub samples : List ℤ
+  pub sounding : Sounding
   pub envx : ℕ
 
 -- ENVX = level >> 4
 abbrev pub shown : Sounding → Stepped
-shown s = record { play = interpolated (s .play); samples = s .samples; envx = interpolated (s .play) .envelope .level / 16 }
+shown s = record { sounding = record { voice = interpolated (s .voice); endx = s .endx }; envx = s .voice .adsr .«envelope_level» / 16 }
 
 -- an idle voice returns with its ENVX untouched
-unfoldable pub sounded : List ℕ → ℕ → ℕ → ℕ → Source → ℕ → Sounding → Stepped
-sounded ram dir srcn pitch x envx s =
-    if idle (s .play) then record { play = s .play; samples = s .samples; envx = envx } else
-    shown (advanced ram dir srcn pitch x (resolved ram s))
+unfoldable pub sounded : List ℕ → ℕ → ℕ → PitchSource → ℕ → Sounding → Stepped
+sounded ram dir srcn x envx s =
+    if idle (s .voice) then record { sounding = s; envx = envx } else
+    shown (advanced ram dir srcn x (resolved ram s))
 
-unfoldable pub voiceStep : List ℕ → ℕ → ℕ → Settings → ℕ → Source → ℕ → Sounding → Stepped
-voiceStep ram dir srcn settings pitch x envx s =
-    sounded ram dir srcn pitch x envx (record { play = withEnvelope (s .play) (envelopeTick settings (s .play .envelope)); samples = s .samples })
+unfoldable pub voiceStep : List ℕ → ℕ → ℕ → PitchSource → ℕ → Sounding → Stepped
+voiceStep ram dir srcn x envx s =
+    sounded ram dir srcn x envx (record { voice = withEnvelope (s .voice) (envelopeTick (s .voice .adsr)); endx = s .endx })

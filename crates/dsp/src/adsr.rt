@@ -1,12 +1,15 @@
 // The envelope of a voice: ADSR and GAIN. The settings, which only register writes change, stand apart from
 // the state that a tick moves.
+ghost use mathlib.Core.Bool.{not, _&&_};
 ghost use mathlib.Core.Path.{_≡_};
 ghost use Prim.Native.Nat.{_≤_, _<_};
 ghost use Rattle.sound.specs.Clock.{periods};
-ghost use Rattle.dsp.specs.Clock.{tickDue};
-ghost use Rattle.dsp.specs.Machine.{newAdsr};
-ghost use Rattle.dsp.specs.Fit.{fitAdsr};
-ghost use Rattle.dsp.specs.Envelope.{FitEnvelope, FitSettings, counted, levelled, risen, settled, fallenTo, isOff, gains, attackTick, decayTick, sustainTick, releaseTick, gainTick, envelopeTick};
+ghost use Rattle.dsp.specs.Clock.{fires, countedOn};
+ghost use Rattle.dsp.specs.PowerOn.{newAdsr};
+ghost use Rattle.dsp.specs.Fit.{adsrRule, meets, FitAdsr};
+ghost use Rattle.dsp.specs.Envelope.{counted, levelled, risen, settled, fallenTo, isOff, isHeld, attackTick, decayTick, sustainTick, releaseTick, gainTick, envelopeTick};
+ghost use Rattle.dsp.specs.Inside.{asAdsr};
+ghost use Rattle.dsp.specs.declared.adsr.Settings.{Settings};
 
 pub enum EnvelopePhase {
     Attack,
@@ -68,7 +71,7 @@ impl Adsr {
     }
 
     pub(crate) fn is_fit(self) -> bool
-        ensures { λ r. ⌜ r ≡ fitAdsr self ⌝ }
+        ensures { λ r. ⌜ r ≡ meets (adsrRule self) ⌝ }
     {
         (self.envelope_level <= 0x800)
             & (self.tick_counter <= 2047)
@@ -81,7 +84,7 @@ impl Adsr {
 
 pub(crate) fn tick_due(rates: &[u16], counter: u16, entry: u8) -> Tick
     requires { ⌜ (now rates ≡ periods) × (counter ≤ 2047) × (entry < 32) ⌝ }
-    ensures { λ r. ⌜ r ≡ tickDue counter entry ⌝ }
+    ensures { λ r. ⌜ (r .counter ≡ countedOn counter entry) × (r .due ≡ fires counter entry) ⌝ }
 {
     let i = entry as usize;
     let period = rates[i];
@@ -117,7 +120,7 @@ pub(crate) fn is_off(phase: EnvelopePhase) -> bool
 
 // GAIN replaces the ADSR steps of the keyed-on phases; Release and Off are the same in both modes.
 fn gains(phase: EnvelopePhase, s: Settings) -> bool
-    ensures { λ r. ⌜ r ≡ gains phase s ⌝ }
+    ensures { λ r. ⌜ r ≡ (isHeld phase && not (s .«adsr_mode»)) ⌝ }
 {
     match phase {
         EnvelopePhase::Attack => !s.adsr_mode,
@@ -130,14 +133,14 @@ fn gains(phase: EnvelopePhase, s: Settings) -> bool
 
 impl Envelope {
     fn counted(mut self, counter: u16) -> Self
-        ensures { λ r. ⌜ r ≡ counted self counter ⌝ }
+        ensures { λ r. ⌜ ((s : Settings) → asAdsr s r ≡ counted (asAdsr s self) counter) ⌝ }
     {
         self.counter = counter;
         self
     }
 
     fn levelled(mut self, level: u16) -> Self
-        ensures { λ r. ⌜ r ≡ levelled self level ⌝ }
+        ensures { λ r. ⌜ ((s : Settings) → asAdsr s r ≡ levelled (asAdsr s self) level) ⌝ }
     {
         self.level = level;
         self
@@ -145,7 +148,7 @@ impl Envelope {
 
     fn risen(self, by: u16) -> Self
         requires { ⌜ (self .level ≤ 0x800) × (by ≤ 1024) ⌝ }
-        ensures { λ r. ⌜ r ≡ risen by self ⌝ }
+        ensures { λ r. ⌜ ((s : Settings) → asAdsr s r ≡ risen by (asAdsr s self)) ⌝ }
     {
         let level = self.level + by;
         if level >= 0x7FF {
@@ -160,7 +163,7 @@ impl Envelope {
     }
 
     fn settled(self, target: u16) -> Self
-        ensures { λ r. ⌜ r ≡ settled target self ⌝ }
+        ensures { λ r. ⌜ ((s : Settings) → asAdsr s r ≡ settled target (asAdsr s self)) ⌝ }
     {
         let level = sound::lowered(self.level);
         if level <= target {
@@ -175,7 +178,7 @@ impl Envelope {
     }
 
     fn fallen_to(self, level: u16) -> Self
-        ensures { λ r. ⌜ r ≡ fallenTo level self ⌝ }
+        ensures { λ r. ⌜ ((s : Settings) → asAdsr s r ≡ fallenTo level (asAdsr s self)) ⌝ }
     {
         if level == 0 {
             Envelope {
@@ -190,8 +193,8 @@ impl Envelope {
 
     // Rate 15 is near-instant: a fixed step and no clock.
     fn attack(self, rates: &[u16], s: Settings) -> Self
-        requires { ⌜ (now rates ≡ periods) × FitSettings s × FitEnvelope self ⌝ }
-        ensures { λ r. ⌜ r ≡ attackTick s self ⌝ }
+        requires { ⌜ (now rates ≡ periods) × FitAdsr (asAdsr s self) ⌝ }
+        ensures { λ r. ⌜ asAdsr s r ≡ attackTick (asAdsr s self) ⌝ }
     {
         if s.attack_rate == 15 {
             self.risen(1024)
@@ -203,8 +206,8 @@ impl Envelope {
     }
 
     fn decay(self, rates: &[u16], s: Settings) -> Self
-        requires { ⌜ (now rates ≡ periods) × FitSettings s × FitEnvelope self ⌝ }
-        ensures { λ r. ⌜ r ≡ decayTick s self ⌝ }
+        requires { ⌜ (now rates ≡ periods) × FitAdsr (asAdsr s self) ⌝ }
+        ensures { λ r. ⌜ asAdsr s r ≡ decayTick (asAdsr s self) ⌝ }
     {
         let t = tick_due(rates, self.counter, 2 * s.decay_rate + 16);
         let e = self.counted(t.counter);
@@ -216,8 +219,8 @@ impl Envelope {
     }
 
     fn sustain(self, rates: &[u16], s: Settings) -> Self
-        requires { ⌜ (now rates ≡ periods) × FitSettings s × FitEnvelope self ⌝ }
-        ensures { λ r. ⌜ r ≡ sustainTick s self ⌝ }
+        requires { ⌜ (now rates ≡ periods) × FitAdsr (asAdsr s self) ⌝ }
+        ensures { λ r. ⌜ asAdsr s r ≡ sustainTick (asAdsr s self) ⌝ }
     {
         let t = tick_due(rates, self.counter, s.sustain_rate);
         let e = self.counted(t.counter);
@@ -229,15 +232,15 @@ impl Envelope {
     }
 
     fn release(self) -> Self
-        ensures { λ r. ⌜ r ≡ releaseTick self ⌝ }
+        ensures { λ r. ⌜ ((s : Settings) → asAdsr s r ≡ releaseTick (asAdsr s self)) ⌝ }
     {
         self.fallen_to(numbers::saturating_sub(self.level, 8))
     }
 
     // GAIN: a level at once, or a ramp at its own rate. No phase change.
     fn update_gain(self, rates: &[u16], s: Settings) -> Self
-        requires { ⌜ (now rates ≡ periods) × FitEnvelope self ⌝ }
-        ensures { λ r. ⌜ r ≡ gainTick s self ⌝ }
+        requires { ⌜ (now rates ≡ periods) × FitAdsr (asAdsr s self) ⌝ }
+        ensures { λ r. ⌜ asAdsr s r ≡ gainTick (asAdsr s self) ⌝ }
     {
         let g = s.gain_param;
         if g < 0x80 {
@@ -255,8 +258,8 @@ impl Envelope {
 
     // Advance the envelope by one tick.
     pub(crate) fn update_envelope(self, rates: &[u16], s: Settings) -> Self
-        requires { ⌜ (now rates ≡ periods) × FitSettings s × FitEnvelope self ⌝ }
-        ensures { λ r. ⌜ r ≡ envelopeTick s self ⌝ }
+        requires { ⌜ (now rates ≡ periods) × FitAdsr (asAdsr s self) ⌝ }
+        ensures { λ r. ⌜ asAdsr s r ≡ envelopeTick (asAdsr s self) ⌝ }
     {
         let p = self.phase;
         if gains(p, s) {

@@ -2,9 +2,11 @@
 ghost use mathlib.Core.Path.{_≡_};
 ghost use Prim.Native.Nat.{_+_, _<_};
 ghost use lib.ListN.{length};
-ghost use Rattle.dsp.specs.Machine.{newBrr};
-ghost use Rattle.dsp.specs.Fit.{fitBrr};
-ghost use Rattle.dsp.specs.Brr.{byteAt, wordAt, sampleOf, Decoded, decodeBlock};
+ghost use Rattle.dsp.specs.PowerOn.{newBrr};
+ghost use Rattle.dsp.specs.Fit.{brrRule, meets};
+ghost use Rattle.dsp.specs.Ram.{byteAt, wordAt};
+ghost use Rattle.dsp.specs.Brr.{sampleOf, decodeBlock};
+ghost use Rattle.dsp.specs.Inside.{asDecoded};
 
 // BRR playback state of one voice.
 pub struct Brr {
@@ -33,7 +35,7 @@ impl Brr {
     }
 
     pub(crate) fn is_fit(self) -> bool
-        ensures { λ r. ⌜ r ≡ fitBrr self ⌝ }
+        ensures { λ r. ⌜ r ≡ meets (brrRule self) ⌝ }
     {
         (self.nibble_idx <= 15) & ((self.buffer_fill == 0) | (self.buffer_fill == 16))
     }
@@ -83,7 +85,7 @@ pub(crate) fn decode_brr_block(
     samples: &mut [i16],
 ) -> Block
     requires { ⌜ (length (now ram) ≡ 0x10000) × (length (now samples) ≡ 16) ⌝ }
-    ensures { λ r. ⌜ _≡_ {A = Decoded} (record { samples = now (samples .exit); prev1 = r .prev1; prev2 = r .prev2; end = r .end; loops = r .loops }) (decodeBlock (now (ram .entry)) addr prev1 prev2) ⌝ }
+    ensures { λ r. ⌜ asDecoded r (now (samples .exit)) ≡ decodeBlock (now (ram .entry)) addr prev1 prev2 ⌝ }
 {
     let header = ram_read8(ram, addr, 0);
     let mut p1 = prev1;

@@ -2,7 +2,7 @@
 ghost use mathlib.Core.Path.{_≡_};
 ghost use Prim.Native.Nat.{_<_};
 ghost use Rattle.sound.specs.Gauss.{weights};
-ghost use Rattle.dsp.specs.Gauss.{tapZ, interpolateZ};
+ghost use Rattle.dsp.specs.Interpolation.{tapZ, interpolateZ};
 
 // One sample weighted by the entry at i.
 fn tap(table: &[i16], i: usize, x: i16) -> i32

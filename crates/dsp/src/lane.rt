@@ -1,16 +1,20 @@
 // One lane of the machine for one tick: key off and on, the key-on delay, the voice's step, noise, and what it
 // leaves in the registers and in the sums.
+ghost use mathlib.Core.List.{List};
 ghost use mathlib.Core.Path.{_≡_};
 ghost use Prim.Native.Nat.{_<_, _≤_};
+ghost use lib.IntN.{ℤ};
 ghost use lib.ListN.{length};
 ghost use Rattle.sound.specs.Clock.{periods};
 ghost use Rattle.sound.specs.Gauss.{weights};
-ghost use Rattle.dsp.specs.Envelope.{FitSettings};
-ghost use Rattle.dsp.specs.Fit.{FitVoice};
-ghost use Rattle.dsp.specs.Voice.{FitPlay};
+ghost use Rattle.dsp.specs.Fit.{FitAdsr, FitBrr, FitVoice};
+ghost use Rattle.dsp.specs.Keys.{keyedOff, keyedOn, polledEndx, polledDelay};
+ghost use Rattle.dsp.specs.Voice.{Sounding};
 ghost use Rattle.numbers.specs.Choice.{if_then_else_};
 ghost use Rattle.dsp.specs.Sheet.{laneBytes};
-ghost use Rattle.dsp.specs.Lane.{playOf, settingsOf, voiceOf, polledOf, waitedOf, Cell, cellAfter, ownCell, shownCell, keyedOff, keyedOn, delayOf, Waiting, waited, noised, sourceOf, putBytes, newAcc, added, Landed, turned};
+ghost use Rattle.dsp.specs.Lane.{polledOf, Waiting, waited, sourceOf, waitedOf, noised, cellAfter, ownCell, shownCell, putBytes, noSums, added, Landed, turned};
+ghost use Rattle.dsp.specs.Inside.{settingsOf, asAdsr, asBrr, asVoice, asSounding, asSource, asShared, asCell, asSums};
+ghost use Rattle.dsp.specs.declared.voice.Voice.{Voice};
 use crate::adsr::Adsr;
 use crate::adsr::Envelope;
 use crate::adsr::EnvelopePhase;
@@ -70,7 +74,7 @@ pub struct Turned {
 
 impl Voice {
     fn settings(self) -> Settings
-        ensures { λ r. ⌜ r ≡ settingsOf self ⌝ }
+        ensures { λ r. ⌜ r ≡ settingsOf (self .adsr) ⌝ }
     {
         let a = self.adsr;
         Settings {
@@ -85,7 +89,7 @@ impl Voice {
 
     // What a tick moves, with the voice's ENDX bit.
     fn play(self, endx: bool) -> Play
-        ensures { λ r. ⌜ r ≡ playOf endx self ⌝ }
+        ensures { λ r. ⌜ _≡_ {A = Sounding} (asSounding self r (self .brr .«sample_buffer»)) (record { voice = self; endx = endx }) ⌝ }
     {
         let a = self.adsr;
         let b = self.brr;
@@ -113,7 +117,7 @@ impl Voice {
     }
 
     fn with_play(self, p: Play, samples: [i16; 16]) -> Self
-        ensures { λ r. ⌜ r ≡ voiceOf self p samples ⌝ }
+        ensures { λ r. ⌜ r ≡ asVoice self p samples ⌝ }
     {
         let a = self.adsr;
         let e = p.envelope;
@@ -171,7 +175,7 @@ impl Brr {
 impl Play {
     // A polled KOFF bit: release, unless the phase is Off.
     fn keyed_off(mut self, on: bool) -> Self
-        ensures { λ r. ⌜ r ≡ keyedOff on self ⌝ }
+        ensures { λ r. ⌜ ((v : Voice) (samples : List ℤ) → _≡_ {A = Sounding} (asSounding v r samples) (record { voice = keyedOff on (asVoice v self samples); endx = self .endx })) ⌝ }
     {
         let e = self.envelope;
         let phase = e.phase;
@@ -192,7 +196,7 @@ impl Play {
     // A polled KON bit: all playback state starts anew. The address is that of the directory entry until the
     // first step resolves it.
     fn keyed_on(self, on: bool, dir: u8, srcn: u8) -> Self
-        ensures { λ r. ⌜ r ≡ keyedOn on dir srcn self ⌝ }
+        ensures { λ r. ⌜ ((v : Voice) (samples : List ℤ) → v .srcn ≡ srcn → _≡_ {A = Sounding} (asSounding v r samples) (record { voice = keyedOn on dir (asVoice v self samples); endx = polledEndx on (self .endx) })) ⌝ }
     {
         if on {
             let envelope = Envelope {
@@ -221,7 +225,7 @@ impl Play {
 
     // NON replaces the sample after the voice's step.
     fn noised(mut self, on: bool, x: i16) -> Self
-        ensures { λ r. ⌜ r ≡ noised on x self ⌝ }
+        ensures { λ r. ⌜ ((v : Voice) (samples : List ℤ) → _≡_ {A = Sounding} (asSounding v r samples) (record { voice = noised on x (asVoice v self samples); endx = self .endx })) ⌝ }
     {
         if on {
             self.current_sample = x;
@@ -246,8 +250,8 @@ impl Play {
         ram: &[u8],
         samples: &mut [i16],
     ) -> Held
-        requires { ⌜ (now table ≡ weights) × (now rates ≡ periods) × (length (now ram) ≡ 0x10000) × (length (now samples) ≡ 16) × FitSettings s × FitPlay self ⌝ }
-        ensures { λ r. ⌜ _≡_ {A = Waiting} (record { play = r .play; samples = now (samples .exit); delay = r .delay; envx = r .envx }) (waited (now (ram .entry)) dir srcn s pitch source envx delay (record { play = self; samples = now (samples .entry) })) ⌝ }
+        requires { ⌜ (now table ≡ weights) × (now rates ≡ periods) × (length (now ram) ≡ 0x10000) × (length (now samples) ≡ 16) × FitAdsr (asAdsr s (self .envelope)) × FitBrr (asBrr self (now samples)) ⌝ }
+        ensures { λ r. ⌜ ((v : Voice) → v .pitch ≡ pitch → settingsOf (v .adsr) ≡ s → _≡_ {A = Waiting} (record { sounding = asSounding v (r .play) (now (samples .exit)); delay = r .delay; envx = r .envx }) (waited (now (ram .entry)) dir srcn (asSource source) envx delay (asSounding v self (now (samples .entry))))) ⌝ }
     {
         if delay == 0 {
             let t = self.step(
@@ -275,14 +279,14 @@ impl Play {
 
 // The poll tick is the first of five that the voice does not step in.
 fn delay_of(on: bool, delay: u8) -> u8
-    ensures { λ r. ⌜ r ≡ delayOf on delay ⌝ }
+    ensures { λ r. ⌜ r ≡ polledDelay on delay ⌝ }
 {
     if on { 5 } else { delay }
 }
 
 fn source_of(pmon: u8, j: usize, prev: i16) -> Source
     requires { ⌜ j < 8 ⌝ }
-    ensures { λ r. ⌜ r ≡ sourceOf pmon j prev ⌝ }
+    ensures { λ r. ⌜ asSource r ≡ sourceOf pmon j prev ⌝ }
 {
     if bit(pmon, j) {
         Source::From(prev)
@@ -304,7 +308,7 @@ fn put_bytes(bytes: &mut [u8], j: usize, envx: u8, out: i16, endx: bool)
 
 impl Acc {
     pub(crate) fn new() -> Self
-        ensures { λ r. ⌜ r ≡ newAcc ⌝ }
+        ensures { λ r. ⌜ asSums r ≡ noSums ⌝ }
     {
         let silent = Stereo { l: 0, r: 0 };
         Self {
@@ -316,7 +320,7 @@ impl Acc {
 
     // The next voice's source is this output with bit 0 cleared; EON sums it into the echo input too.
     fn added(self, echo: bool, out: i16, left: i8, right: i8) -> Self
-        ensures { λ r. ⌜ r ≡ added echo out left right self ⌝ }
+        ensures { λ r. ⌜ asSums r ≡ added echo out left right (asSums self) ⌝ }
     {
         let d = self.dry;
         let dry = d.with_voice(out, left, right);
@@ -341,7 +345,7 @@ impl Acc {
 // The poll of voice j.
 fn polled(v: Voice, c: Shared, j: usize, endx: bool) -> Play
     requires { ⌜ j < 8 ⌝ }
-    ensures { λ r. ⌜ r ≡ polledOf c j v endx ⌝ }
+    ensures { λ r. ⌜ asSounding v r (v .brr .«sample_buffer») ≡ polledOf (asShared c) j v endx ⌝ }
 {
     let p = v.play(endx);
     let q = p.keyed_off(bit(c.koff, j));
@@ -363,8 +367,8 @@ fn stepped(
     ram: &[u8],
     samples: &mut [i16],
 ) -> Held
-    requires { ⌜ (now table ≡ weights) × (now rates ≡ periods) × (length (now ram) ≡ 0x10000) × (length (now samples) ≡ 16) × (j < 8) × FitVoice v ⌝ }
-    ensures { λ r. ⌜ _≡_ {A = Waiting} (record { play = r .play; samples = now (samples .exit); delay = r .delay; envx = r .envx }) (waitedOf c (now (ram .entry)) j prev v delay srcn envx endx (now (samples .entry))) ⌝ }
+    requires { ⌜ (now table ≡ weights) × (now rates ≡ periods) × (length (now ram) ≡ 0x10000) × (now samples ≡ v .brr .«sample_buffer») × (length (now samples) ≡ 16) × (j < 8) × FitVoice v ⌝ }
+    ensures { λ r. ⌜ _≡_ {A = Waiting} (record { sounding = asSounding v (r .play) (now (samples .exit)); delay = r .delay; envx = r .envx }) (waitedOf (asShared c) (now (ram .entry)) j prev v delay srcn envx endx) ⌝ }
 {
     let p = polled(v, c, j, endx);
     let wait = delay_of(bit(c.kon, j), delay);
@@ -388,7 +392,7 @@ fn stepped(
 // NON, and the scaled output.
 fn finished(v: Voice, c: Shared, j: usize, h: Held, samples: [i16; 16]) -> Celled
     requires { ⌜ (j < 8) × (h .play .envelope .level ≤ 0x800) ⌝ }
-    ensures { λ r. ⌜ _≡_ {A = Cell} (record { voice = r .voice; delay = r .delay; out = r .out; envx = r .envx; endx = r .endx }) (cellAfter c j v (record { play = h .play; samples = samples; delay = h .delay; envx = h .envx })) ⌝ }
+    ensures { λ r. ⌜ asCell r ≡ cellAfter (asShared c) j (record { sounding = asSounding v (h .play) samples; delay = h .delay; envx = h .envx }) ⌝ }
 {
     let p = h.play;
     let n = p.noised(bit(c.non, j), c.noise);
@@ -418,7 +422,7 @@ fn own_cell(
     bytes: &[u8],
 ) -> Celled
     requires { ⌜ (now table ≡ weights) × (now rates ≡ periods) × (length (now ram) ≡ 0x10000) × (length (now bytes) ≡ 128) × (j < 8) × FitVoice v × (delay ≤ 5) ⌝ }
-    ensures { λ r. ⌜ _≡_ {A = Cell} (record { voice = r .voice; delay = r .delay; out = r .out; envx = r .envx; endx = r .endx }) (ownCell c (now (ram .entry)) j prev v delay (now (bytes .entry))) ⌝ }
+    ensures { λ r. ⌜ asCell r ≡ ownCell (asShared c) (now (ram .entry)) j prev v delay (now (bytes .entry)) ⌝ }
 {
     let srcn = bytes[j * 16 + 4];
     let envx = bytes[j * 16 + 8];
@@ -445,7 +449,7 @@ fn own_cell(
 // A voice that is not stepped: its lane of the sheet says what it gives.
 fn shown_cell(v: Voice, delay: u8, slot: &[u8]) -> Celled
     requires { ⌜ length (now slot) ≡ 4 ⌝ }
-    ensures { λ r. ⌜ _≡_ {A = Cell} (record { voice = r .voice; delay = r .delay; out = r .out; envx = r .envx; endx = r .endx }) (shownCell (now (slot .entry)) v delay) ⌝ }
+    ensures { λ r. ⌜ asCell r ≡ shownCell (now (slot .entry)) v delay ⌝ }
 {
     Celled {
         voice: v,
@@ -471,7 +475,7 @@ fn cell(
     slot: &[u8],
 ) -> Celled
     requires { ⌜ (now table ≡ weights) × (now rates ≡ periods) × (length (now ram) ≡ 0x10000) × (length (now bytes) ≡ 128) × (j < 8) × FitVoice v × (delay ≤ 5) × (length (now slot) ≡ 4) ⌝ }
-    ensures { λ r. ⌜ _≡_ {A = Cell} (record { voice = r .voice; delay = r .delay; out = r .out; envx = r .envx; endx = r .endx }) (if worked then ownCell c (now (ram .entry)) j prev v delay (now (bytes .entry)) else shownCell (now (slot .entry)) v delay) ⌝ }
+    ensures { λ r. ⌜ asCell r ≡ (if worked then ownCell (asShared c) (now (ram .entry)) j prev v delay (now (bytes .entry)) else shownCell (now (slot .entry)) v delay) ⌝ }
 {
     if worked {
         own_cell(v, delay, c, j, prev, table, rates, ram, bytes)
@@ -514,7 +518,7 @@ pub(crate) fn lane(
     slot: &mut [u8],
 ) -> Turned
     requires { ⌜ (now table ≡ weights) × (now rates ≡ periods) × (length (now ram) ≡ 0x10000) × (length (now bytes) ≡ 128) × (j < 8) × FitVoice v × (delay ≤ 5) × (length (now slot) ≡ 4) ⌝ }
-    ensures { λ r. ⌜ _≡_ {A = Landed} (record { voice = r .voice; delay = r .delay; acc = r .acc; bytes = now (bytes .exit); slot = now (slot .exit) }) (turned worked c (now (ram .entry)) j v delay acc (now (bytes .entry)) (now (slot .entry))) ⌝ }
+    ensures { λ r. ⌜ _≡_ {A = Landed} (record { voice = r .voice; delay = r .delay; sums = asSums (r .acc); bytes = now (bytes .exit); slot = now (slot .exit) }) (turned worked (asShared c) (now (ram .entry)) j v delay (asSums acc) (now (bytes .entry)) (now (slot .entry))) ⌝ }
 {
     let x = cell(
         v,

@@ -1,7 +1,10 @@
 // Outputs and sums: what a voice gives, the dry sum, and the stereo sample.
 ghost use mathlib.Core.Path.{_≡_};
-ghost use Prim.Native.Nat.{_≤_};
-ghost use Rattle.dsp.specs.Mix.{scaledOutput, withVoice, dryOf, masterOf, Levels, Rendered, renderOf};
+ghost use Prim.Native.Nat.{ℕ, _≤_};
+ghost use lib.ListN.{getD};
+ghost use Rattle.dsp.specs.Machine.{noVoice};
+ghost use Rattle.dsp.specs.Mix.{scaledOutput, withVoice, dryOf, masterOf, Rendered, renderOf};
+ghost use Rattle.dsp.specs.Inside.{asStereo, asGlobals};
 use crate::adsr::EnvelopePhase;
 use crate::adsr::is_off;
 use crate::registers::Dsp;
@@ -36,7 +39,7 @@ pub(crate) fn scaled_output(phase: EnvelopePhase, level: u16, sample: i16) -> i1
 impl Stereo {
     // An output by a voice's volumes, added to both sums, which saturate.
     pub(crate) fn with_voice(self, out: i16, left: i8, right: i8) -> Self
-        ensures { λ r. ⌜ r ≡ withVoice out left right self ⌝ }
+        ensures { λ r. ⌜ asStereo r ≡ withVoice out left right (asStereo self) ⌝ }
     {
         Stereo {
             l: sound::summed(self.l, out, left),
@@ -47,8 +50,8 @@ impl Stereo {
 
 // The dry mix is a 16-bit accumulator: it saturates after each voice, so the order of loud voices matters.
 pub(crate) fn dry(voices: [Voice; 8]) -> Stereo
-    requires { ⌜ Levels voices ⌝ }
-    ensures { λ r. ⌜ r ≡ dryOf voices ⌝ }
+    requires { ⌜ ((n : ℕ) → getD voices n noVoice .adsr .«envelope_level» ≤ 0x800) ⌝ }
+    ensures { λ r. ⌜ asStereo r ≡ dryOf voices ⌝ }
 {
     let mut s = Stereo { l: 0, r: 0 };
     let mut n: usize = 0;
@@ -66,7 +69,7 @@ pub(crate) fn dry(voices: [Voice; 8]) -> Stereo
 impl Glob {
     // MUTE and RESET silence the last stage only.
     pub(crate) fn mastered(self, dry: Stereo) -> Stereo
-        ensures { λ r. ⌜ r ≡ masterOf self dry ⌝ }
+        ensures { λ r. ⌜ asStereo r ≡ masterOf (asGlobals self) (asStereo dry) ⌝ }
     {
         if bit(self.flg, 6) | bit(self.flg, 7) {
             return Stereo { l: 0, r: 0 };

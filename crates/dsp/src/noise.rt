@@ -1,7 +1,9 @@
 // Noise: the 15-bit shift register that all voices share, and its clock.
 ghost use mathlib.Core.Path.{_≡_};
+ghost use Prim.Native.Nat.{_≤_};
 ghost use Rattle.sound.specs.Clock.{periods};
-ghost use Rattle.dsp.specs.Noise.{FitNoise, noiseTick, noiseSample};
+ghost use Rattle.dsp.specs.Noise.{noiseTick, noiseSample};
+ghost use Rattle.dsp.specs.Inside.{asNoise};
 use crate::adsr::tick_due;
 
 // The Rust's noise_lfsr and noise_tick_counter.
@@ -13,8 +15,8 @@ pub struct Noise {
 impl Noise {
     // The Rust's advance_noise: FLG bits 4-0 are the rate.
     pub(crate) fn advance(mut self, rates: &[u16], flg: u8) -> Self
-        requires { ⌜ (now rates ≡ periods) × FitNoise self ⌝ }
-        ensures { λ r. ⌜ r ≡ noiseTick flg self ⌝ }
+        requires { ⌜ (now rates ≡ periods) × (self .counter ≤ 2047) ⌝ }
+        ensures { λ r. ⌜ asNoise r ≡ noiseTick flg (asNoise self) ⌝ }
     {
         let t = tick_due(rates, self.counter, flg % 32);
         self.counter = t.counter;
@@ -28,8 +30,8 @@ impl Noise {
 
     // The register doubled, to 16 bits.
     pub(crate) fn sample(self) -> i16
-        requires { ⌜ FitNoise self ⌝ }
-        ensures { λ r. ⌜ r ≡ noiseSample self ⌝ }
+        requires { ⌜ self .lfsr ≤ 0x7FFF ⌝ }
+        ensures { λ r. ⌜ r ≡ noiseSample (asNoise self) ⌝ }
     {
         numbers::cut16(2 * (self.lfsr as i32)) as i16
     }

@@ -1,12 +1,18 @@
 // One voice for one tick: pitch, samples, blocks. What moves stands in one small record; the 16 samples of the
 // block that is played are lent beside it.
+ghost use mathlib.Core.Bool.{_||_};
+ghost use mathlib.Core.List.{List};
 ghost use mathlib.Core.Path.{_≡_};
 ghost use Prim.Native.Nat.{_<_, _≤_};
-ghost use lib.ListN.{length};
+ghost use lib.IntN.{ℤ, pos};
+ghost use lib.ListN.{getD, length};
 ghost use Rattle.sound.specs.Clock.{periods};
 ghost use Rattle.sound.specs.Gauss.{weights};
-ghost use Rattle.dsp.specs.Envelope.{FitSettings};
-ghost use Rattle.dsp.specs.Voice.{FitPlay, FitBlock, Sounding, Stepped, pitchOf, positionOf, muted, filled, placed, decodedAt, nextAddress, nextBlock, resolved, pushed, takeOne, consume, idle, advanced, interpolated, voiceStep};
+ghost use Rattle.dsp.specs.Fit.{FitAdsr, FitBrr};
+ghost use Rattle.dsp.specs.Keys.{silenced};
+ghost use Rattle.dsp.specs.Voice.{Sounding, Stepped, pitchOf, positionOf, filled, withBlock, decodedAt, nextAddress, nextBlock, resolved, pushedNext, takeOne, consume, idle, advanced, interpolated, voiceStep};
+ghost use Rattle.dsp.specs.Inside.{settingsOf, asAdsr, asBrr, asVoice, asSounding, asDecoded, asSource};
+ghost use Rattle.dsp.specs.declared.voice.Voice.{Voice};
 use crate::adsr::Envelope;
 use crate::adsr::EnvelopePhase;
 use crate::adsr::Settings;
@@ -44,7 +50,7 @@ pub struct Shown {
 }
 
 fn pitch_of(base: u16, source: Source) -> u32
-    ensures { λ r. ⌜ (r ≡ pitchOf base source) × (r < 0x20000) ⌝ }
+    ensures { λ r. ⌜ (pos r ≡ pitchOf base (asSource source)) × (r < 0x20000) ⌝ }
 {
     let b = base as i32;
     if let Source::From(x) = source {
@@ -57,7 +63,7 @@ fn pitch_of(base: u16, source: Source) -> u32
 impl Play {
     // The position moved on by the pitch. The cap applies under strong modulation only.
     fn position_of(self, pitch: u16, source: Source) -> u16
-        ensures { λ r. ⌜ r ≡ positionOf self pitch source ⌝ }
+        ensures { λ r. ⌜ ((v : Voice) (samples : List ℤ) → v .pitch ≡ pitch → r ≡ positionOf (asSource source) (asVoice v self samples)) ⌝ }
     {
         let s = ((self.pitch_counter % 0x4000) as u32) + pitch_of(pitch, source);
         if s <= 0x7FFF { s as u16 } else { 0x7FFF }
@@ -65,7 +71,7 @@ impl Play {
 
     // An end block without loop: a hard mute and no release.
     fn muted(self) -> Self
-        ensures { λ r. ⌜ r ≡ muted self ⌝ }
+        ensures { λ r. ⌜ ((v : Voice) (samples : List ℤ) → _≡_ {A = Sounding} (asSounding v r samples) (record { voice = silenced (asVoice v self samples); endx = self .endx })) ⌝ }
     {
         let e = self.envelope;
         let cut = Envelope {
@@ -82,7 +88,7 @@ impl Play {
 
     // The block at an address lies in the buffer.
     fn filled(mut self, at: u16, b: Block) -> Self
-        ensures { λ r. ⌜ r ≡ filled at (b .prev1) (b .prev2) (b .end) self ⌝ }
+        ensures { λ r. ⌜ ((v : Voice) (old new : List ℤ) → _≡_ {A = Sounding} (asSounding v r new) (record { voice = filled at (asDecoded b new) (asVoice v self old); endx = self .endx || b .end })) ⌝ }
     {
         self.addr = at;
         self.nibble_idx = 0;
@@ -95,7 +101,7 @@ impl Play {
     }
 
     fn placed(self, at: u16, b: Block) -> Self
-        ensures { λ r. ⌜ r ≡ placed at (b .prev1) (b .prev2) (b .end) (b .loops) self ⌝ }
+        ensures { λ r. ⌜ ((v : Voice) (old new : List ℤ) → asSounding v r new ≡ withBlock at (asSounding v self old) (asDecoded b new)) ⌝ }
     {
         let p = self.filled(at, b);
         if b.end & !b.loops { p.muted() } else { p }
@@ -103,7 +109,7 @@ impl Play {
 
     fn decoded_at(self, ram: &[u8], samples: &mut [i16], at: u16) -> Self
         requires { ⌜ (length (now ram) ≡ 0x10000) × (length (now samples) ≡ 16) ⌝ }
-        ensures { λ r. ⌜ _≡_ {A = Sounding} (record { play = r; samples = now (samples .exit) }) (decodedAt (now (ram .entry)) at (record { play = self; samples = now (samples .entry) })) ⌝ }
+        ensures { λ r. ⌜ ((v : Voice) → asSounding v r (now (samples .exit)) ≡ decodedAt (now (ram .entry)) at (asSounding v self (now (samples .entry)))) ⌝ }
     {
         let b = decode_brr_block(ram, at, self.prev1, self.prev2, samples);
         self.placed(at, b)
@@ -113,7 +119,7 @@ impl Play {
     // points while a note plays.
     fn next_address(self, ram: &[u8], dir: u8, srcn: u8) -> u16
         requires { ⌜ length (now ram) ≡ 0x10000 ⌝ }
-        ensures { λ r. ⌜ r ≡ nextAddress (now (ram .entry)) dir srcn self ⌝ }
+        ensures { λ r. ⌜ ((samples : List ℤ) → r ≡ nextAddress (now (ram .entry)) dir srcn (asBrr self samples)) ⌝ }
     {
         if self.block_end {
             let entry = numbers::wrapping_add16((dir as u16) * 256, (srcn as u16) * 4);
@@ -125,7 +131,7 @@ impl Play {
 
     fn next_block(self, ram: &[u8], samples: &mut [i16], dir: u8, srcn: u8) -> Self
         requires { ⌜ (length (now ram) ≡ 0x10000) × (length (now samples) ≡ 16) ⌝ }
-        ensures { λ r. ⌜ _≡_ {A = Sounding} (record { play = r; samples = now (samples .exit) }) (nextBlock (now (ram .entry)) dir srcn (record { play = self; samples = now (samples .entry) })) ⌝ }
+        ensures { λ r. ⌜ ((v : Voice) → asSounding v r (now (samples .exit)) ≡ nextBlock (now (ram .entry)) dir srcn (asSounding v self (now (samples .entry)))) ⌝ }
     {
         let at = self.next_address(ram, dir, srcn);
         self.decoded_at(ram, samples, at)
@@ -134,7 +140,7 @@ impl Play {
     // On the first tick after key-on the address is still that of the directory entry.
     fn resolved(self, ram: &[u8], samples: &mut [i16]) -> Self
         requires { ⌜ (length (now ram) ≡ 0x10000) × (length (now samples) ≡ 16) ⌝ }
-        ensures { λ r. ⌜ _≡_ {A = Sounding} (record { play = r; samples = now (samples .exit) }) (resolved (now (ram .entry)) (record { play = self; samples = now (samples .entry) })) ⌝ }
+        ensures { λ r. ⌜ ((v : Voice) → asSounding v r (now (samples .exit)) ≡ resolved (now (ram .entry)) (asSounding v self (now (samples .entry)))) ⌝ }
     {
         if self.buffer_fill == 0 {
             let at = read_le16(ram, self.addr, 0);
@@ -147,7 +153,7 @@ impl Play {
     // The next sample goes into the history, oldest first.
     fn push_history(mut self, x: i16) -> Self
         requires { ⌜ self .«nibble_idx» ≤ 15 ⌝ }
-        ensures { λ r. ⌜ r ≡ pushed x self ⌝ }
+        ensures { λ r. ⌜ ((v : Voice) (samples : List ℤ) → getD samples (self .«nibble_idx») (pos 0) ≡ x → asSounding v r samples ≡ pushedNext (asSounding v self samples)) ⌝ }
     {
         let h = self.history;
         self.history = [h[1], h[2], h[3], x];
@@ -158,7 +164,7 @@ impl Play {
     // One sample, and the block change after the sixteenth.
     fn take_one(self, ram: &[u8], samples: &mut [i16], dir: u8, srcn: u8) -> Self
         requires { ⌜ (length (now ram) ≡ 0x10000) × (length (now samples) ≡ 16) × (self .«nibble_idx» ≤ 15) ⌝ }
-        ensures { λ r. ⌜ _≡_ {A = Sounding} (record { play = r; samples = now (samples .exit) }) (takeOne (now (ram .entry)) dir srcn (record { play = self; samples = now (samples .entry) })) ⌝ }
+        ensures { λ r. ⌜ ((v : Voice) → asSounding v r (now (samples .exit)) ≡ takeOne (now (ram .entry)) dir srcn (asSounding v self (now (samples .entry)))) ⌝ }
     {
         let k = self.nibble_idx as usize;
         let p = self.push_history(samples[k]);
@@ -171,8 +177,8 @@ impl Play {
 
     // Samples one by one. A block change with key_on clear drops the tick's further ones, in Release too.
     fn consume(self, ram: &[u8], samples: &mut [i16], dir: u8, srcn: u8, n: u16) -> Self
-        requires { ⌜ (length (now ram) ≡ 0x10000) × (length (now samples) ≡ 16) × FitBlock self ⌝ }
-        ensures { λ r. ⌜ _≡_ {A = Sounding} (record { play = r; samples = now (samples .exit) }) (consume (now (ram .entry)) dir srcn n (record { play = self; samples = now (samples .entry) })) ⌝ }
+        requires { ⌜ (length (now ram) ≡ 0x10000) × (length (now samples) ≡ 16) × FitBrr (asBrr self (now samples)) ⌝ }
+        ensures { λ r. ⌜ ((v : Voice) → asSounding v r (now (samples .exit)) ≡ consume (now (ram .entry)) dir srcn n (asSounding v self (now (samples .entry)))) ⌝ }
     {
         let mut p = self;
         let mut left = n;
@@ -188,7 +194,7 @@ impl Play {
     }
 
     fn is_idle(self) -> bool
-        ensures { λ r. ⌜ r ≡ idle self ⌝ }
+        ensures { λ r. ⌜ ((v : Voice) (samples : List ℤ) → r ≡ idle (asVoice v self samples)) ⌝ }
     {
         let e = self.envelope;
         let phase = e.phase;
@@ -205,8 +211,8 @@ impl Play {
         pitch: u16,
         source: Source,
     ) -> Self
-        requires { ⌜ (length (now ram) ≡ 0x10000) × (length (now samples) ≡ 16) × FitBlock self ⌝ }
-        ensures { λ r. ⌜ _≡_ {A = Sounding} (record { play = r; samples = now (samples .exit) }) (advanced (now (ram .entry)) dir srcn pitch source (record { play = self; samples = now (samples .entry) })) ⌝ }
+        requires { ⌜ (length (now ram) ≡ 0x10000) × (length (now samples) ≡ 16) × FitBrr (asBrr self (now samples)) ⌝ }
+        ensures { λ r. ⌜ ((v : Voice) → v .pitch ≡ pitch → asSounding v r (now (samples .exit)) ≡ advanced (now (ram .entry)) dir srcn (asSource source) (asSounding v self (now (samples .entry)))) ⌝ }
     {
         let old = self.pitch_counter % 0x4000;
         let at = self.position_of(pitch, source);
@@ -218,7 +224,7 @@ impl Play {
 
     fn interpolated(mut self, table: &[i16]) -> Self
         requires { ⌜ now table ≡ weights ⌝ }
-        ensures { λ r. ⌜ r ≡ interpolated self ⌝ }
+        ensures { λ r. ⌜ ((v : Voice) (samples : List ℤ) → _≡_ {A = Sounding} (asSounding v r samples) (record { voice = interpolated (asVoice v self samples); endx = self .endx })) ⌝ }
     {
         let h = self.history;
         self.current_sample = interpolate(table, self.pitch_counter, h);
@@ -239,8 +245,8 @@ impl Play {
         ram: &[u8],
         samples: &mut [i16],
     ) -> Shown
-        requires { ⌜ (now table ≡ weights) × (now rates ≡ periods) × (length (now ram) ≡ 0x10000) × (length (now samples) ≡ 16) × FitSettings s × FitPlay self ⌝ }
-        ensures { λ r. ⌜ _≡_ {A = Stepped} (record { play = r .play; samples = now (samples .exit); envx = r .envx }) (voiceStep (now (ram .entry)) dir srcn s pitch source envx (record { play = self; samples = now (samples .entry) })) ⌝ }
+        requires { ⌜ (now table ≡ weights) × (now rates ≡ periods) × (length (now ram) ≡ 0x10000) × (length (now samples) ≡ 16) × FitAdsr (asAdsr s (self .envelope)) × FitBrr (asBrr self (now samples)) ⌝ }
+        ensures { λ r. ⌜ ((v : Voice) → v .pitch ≡ pitch → settingsOf (v .adsr) ≡ s → _≡_ {A = Stepped} (record { sounding = asSounding v (r .play) (now (samples .exit)); envx = r .envx }) (voiceStep (now (ram .entry)) dir srcn (asSource source) envx (asSounding v self (now (samples .entry))))) ⌝ }
     {
         let e = self.envelope;
         let f = e.update_envelope(rates, s);

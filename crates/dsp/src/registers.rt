@@ -1,10 +1,14 @@
 // The machine record, its reads, and its register writes.
+ghost use mathlib.Core.List.{map};
 ghost use mathlib.Core.Path.{_≡_};
 ghost use Prim.Native.Nat.{_<_, _%_};
 ghost use lib.ListN.{getD};
-ghost use Rattle.dsp.specs.Machine.{newDsp, globOf, withGlob};
-ghost use Rattle.dsp.specs.Fit.{fitGlob, fit};
-ghost use Rattle.dsp.specs.Registers.{globWrite, silenceAll, writeAt, Written, writeOf};
+ghost use Rattle.dsp.specs.PowerOn.{newDsp};
+ghost use Rattle.dsp.specs.Machine.{globalsOf};
+ghost use Rattle.dsp.specs.Fit.{globalsRule, meets, fit};
+ghost use Rattle.dsp.specs.Keys.{silenced};
+ghost use Rattle.dsp.specs.Registers.{globalsAfter, writeAt, Written, writeOf};
+ghost use Rattle.dsp.specs.Inside.{asGlobals, withGlobals};
 use crate::noise::Noise;
 use crate::voice::Voice;
 
@@ -68,7 +72,7 @@ pub struct Answer {
 
 impl Glob {
     pub(crate) fn is_fit(self) -> bool
-        ensures { λ r. ⌜ r ≡ fitGlob self ⌝ }
+        ensures { λ r. ⌜ r ≡ meets (globalsRule (asGlobals self)) ⌝ }
     {
         let n = self.noise;
         (n.counter <= 2047)
@@ -83,7 +87,7 @@ impl Glob {
 
     // The global registers. KOFF is read straight from its byte at each poll; the rest is stored only there.
     pub(crate) fn write(mut self, idx: u8, value: u8) -> Self
-        ensures { λ r. ⌜ r ≡ globWrite idx value self ⌝ }
+        ensures { λ r. ⌜ asGlobals r ≡ globalsAfter idx value (asGlobals self) ⌝ }
     {
         match idx {
             0x4C => self.new_kon = value,
@@ -166,7 +170,7 @@ impl Dsp {
     }
 
     pub(crate) fn glob(self) -> Glob
-        ensures { λ r. ⌜ r ≡ globOf self ⌝ }
+        ensures { λ r. ⌜ asGlobals r ≡ globalsOf self ⌝ }
     {
         let noise = Noise {
             lfsr: self.noise_lfsr,
@@ -212,7 +216,7 @@ impl Dsp {
     }
 
     pub(crate) fn with_glob(mut self, g: Glob) -> Self
-        ensures { λ r. ⌜ r ≡ withGlob self g ⌝ }
+        ensures { λ r. ⌜ r ≡ withGlobals self (asGlobals g) ⌝ }
     {
         let n = g.noise;
         self.dir_base = g.dir_base;
@@ -287,7 +291,7 @@ impl Dsp {
 }
 
 pub(crate) fn silence_all(voices: [Voice; 8]) -> [Voice; 8]
-    ensures { λ r. ⌜ r ≡ silenceAll voices ⌝ }
+    ensures { λ r. ⌜ r ≡ map silenced voices ⌝ }
 {
     let mut vs = voices;
     let mut n: usize = 0;

@@ -1,15 +1,16 @@
 // The machine's tick: the record is taken apart once, driven through its ticks, and made again once.
 ghost use mathlib.Core.Path.{_≡_};
-ghost use mathlib.Core.Bool.{_&&_};
-ghost use mathlib.Core.List.{[]};
-ghost use Prim.Native.Nat.{_*_, _<_};
-ghost use lib.ListN.{length};
-ghost use Rattle.numbers.specs.Choice.{if_then_else_, _<?_};
+ghost use mathlib.Core.List.{List, []};
+ghost use Prim.Native.Nat.{ℕ, _*_, _≤_, _<_};
+ghost use lib.ListN.{getD, length};
+ghost use Rattle.numbers.specs.Choice.{if_then_else_};
 ghost use Rattle.sound.specs.Clock.{periods};
-ghost use Rattle.dsp.specs.Noise.{FitNoise};
-ghost use Rattle.dsp.specs.Fit.{FitGlob, Fit, fit};
+ghost use Rattle.dsp.specs.Noise.{noiseTick};
+ghost use Rattle.dsp.specs.Fit.{FitGlobals, Fit, fit};
 ghost use Rattle.dsp.specs.Machine.{apart, together};
-ghost use Rattle.dsp.specs.Tick.{polls, globTick, sharedFrom, Bench, benchOf, ticksOf, Drove, driveOf, After, stepOf};
+ghost use Rattle.dsp.specs.Tick.{polls, konNow, globalsTick, sharedOf};
+ghost use Rattle.dsp.specs.Ticks.{Bench, benchOf, ticksOf, Drove, driveOf, After, stepOf};
+ghost use Rattle.dsp.specs.Inside.{asNoise, asShared, asGlobals};
 use crate::echo::put_pair;
 use crate::lane::Acc;
 use crate::lane::Shared;
@@ -34,8 +35,8 @@ pub struct Work {
 impl Glob {
     // The poll comes on the ticks on which every_other_sample turns true, and uses up the pending KON.
     fn ticked(mut self, rates: &[u16]) -> Self
-        requires { ⌜ (now rates ≡ periods) × FitGlob self ⌝ }
-        ensures { λ r. ⌜ r ≡ globTick self ⌝ }
+        requires { ⌜ (now rates ≡ periods) × FitGlobals (asGlobals self) ⌝ }
+        ensures { λ r. ⌜ asGlobals r ≡ globalsTick (asGlobals self) ⌝ }
     {
         let n = self.noise;
         let m = n.advance(rates, self.flg);
@@ -51,14 +52,14 @@ impl Glob {
     }
 
     fn polled_koff(self, koff: u8) -> u8
-        ensures { λ r. ⌜ r ≡ (if polls self then koff else 0) ⌝ }
+        ensures { λ r. ⌜ r ≡ (if polls (asGlobals self) then koff else 0) ⌝ }
     {
         if self.every_other_sample { 0 } else { koff }
     }
 
     // While FLG's RESET bit is set, pending key-ons are used up without effect.
     fn polled_kon(self) -> u8
-        ensures { λ r. ⌜ r ≡ (if polls self && (self .flg <? 0x80) then self .«new_kon» else 0) ⌝ }
+        ensures { λ r. ⌜ r ≡ konNow (asGlobals self) ⌝ }
     {
         if !self.every_other_sample & (self.flg < 0x80) {
             self.new_kon
@@ -69,8 +70,8 @@ impl Glob {
 
     // What the voices see: the noise as it has moved, the rest as it stood before the tick.
     fn shared(self, noise: Noise, koff: u8, dir: u8) -> Shared
-        requires { ⌜ FitNoise noise ⌝ }
-        ensures { λ r. ⌜ r ≡ sharedFrom self noise koff dir ⌝ }
+        requires { ⌜ noise .lfsr ≤ 0x7FFF ⌝ }
+        ensures { λ r. ⌜ ((bytes : List ℕ) → getD bytes 0x5C 0 ≡ koff → getD bytes 0x5D 0 ≡ dir → asNoise noise ≡ noiseTick (self .flg) (asNoise (self .noise)) → asShared r ≡ sharedOf (asGlobals self) bytes) ⌝ }
     {
         Shared {
             koff: self.polled_koff(koff),
@@ -113,7 +114,7 @@ impl Dsp {
         left: [i16; 8],
         right: [i16; 8],
     ) -> Self
-        ensures { λ r. ⌜ r ≡ together (record { registers = registers; voices = voices; delays = delays; taps = self .«fir_coeff»; left = left; right = right; glob = g }) ⌝ }
+        ensures { λ r. ⌜ r ≡ together (record { registers = registers; voices = voices; delays = delays; taps = self .«fir_coeff»; left = left; right = right; globals = asGlobals g }) ⌝ }
     {
         let mut d = self.with_glob(g);
         d.registers = registers;

@@ -1,8 +1,9 @@
 // One voice: its record, and what a register write and RESET do to it.
 ghost use mathlib.Core.Path.{_≡_};
-ghost use Rattle.dsp.specs.Machine.{newVoice};
-ghost use Rattle.dsp.specs.Fit.{fitVoice};
-ghost use Rattle.dsp.specs.Registers.{writeVoice, silenced};
+ghost use Rattle.dsp.specs.PowerOn.{newVoice};
+ghost use Rattle.dsp.specs.Fit.{voiceRule, meets};
+ghost use Rattle.dsp.specs.Registers.{writeVoice};
+ghost use Rattle.dsp.specs.Keys.{silenced};
 use crate::adsr::Adsr;
 use crate::adsr::EnvelopePhase;
 use crate::brr::Brr;
@@ -41,7 +42,7 @@ impl Voice {
     }
 
     pub(crate) fn is_fit(self) -> bool
-        ensures { λ r. ⌜ r ≡ fitVoice self ⌝ }
+        ensures { λ r. ⌜ r ≡ meets (voiceRule self) ⌝ }
     {
         let a = self.adsr;
         let b = self.brr;

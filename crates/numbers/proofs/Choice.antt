@@ -18,6 +18,11 @@ pub chosen : {A : Type 0} (P : A → Type 0) (b : Bool) {x y : A} → P x → P 
 chosen P true p q = p
 chosen P false p q = q
 
+-- one test on both sides
+pub chosen-both : {A : Type 0} (R : A → A → Type 0) (b : Bool) {x y v w : A} → R x v → R y w → R (if b then x else y) (if b then v else w)
+chosen-both R true p q = p
+chosen-both R false p q = q
+
 pub least-le : (a b : ℕ) → least a b ≤ b
 least-le a b =
     elim (decLe a b) [

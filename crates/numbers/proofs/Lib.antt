@@ -4,3 +4,6 @@ pub mod Cut
 pub mod Clamp
 pub mod Choice
 pub mod Table
+pub mod Turns
+pub mod Lists
+pub mod Bits

@@ -1,29 +1,24 @@
 -- Rules of a table of signed numbers: one test, computed over the whole table, gives the rule at each entry.
 use mathlib.Core.Bool.{Bool, true, _&&_}
 use mathlib.Core.List.{List, [], _∷_}
+use mathlib.Core.Path.{_≡_}
 use Prim.Native.Nat.{ℕ, zero, suc, _<_, zero-le}
 use lib.Dec.{T, leb, leb→le, le→leb}
+use borrow.Author.Tests.{leb-true, le-leb}
 use lib.IntN.{ℤ, pos, negsuc}
 use lib.ListN.{getD, length}
 use native.Mathlib.Nat.{not-suc-le-zero, le-of-suc-le-suc, le-trans}
 use lib.Signed.{mag, leZ, _≤ℤ_, leZ-yes}
+use Rattle.numbers.specs.Listed.{all}
+use Rattle.numbers.proofs.Lists.{all-at}
 use Rattle.numbers.proofs.Range.{Within, and-l, and-r}
-
-abbrev pub all : (ℤ → Bool) → List ℤ → Bool
-all f [] = true
-all f (x ∷ xs) = f x && all f xs
-
--- past the end stands 0
-pub each : (f : ℤ → Bool) (xs : List ℤ) → T (f (pos 0)) → T (all f xs) → (i : ℕ) → T (f (getD xs i (pos 0)))
-each f [] z t i = z
-each f (x ∷ xs) z t zero = and-l (f x) (all f xs) t
-each f (x ∷ xs) z t (suc i) = each f xs z (and-r (f x) (all f xs) t) i
 
 abbrev pub small : ℕ → ℤ → Bool
 small m x = leb (mag x) m
 
-pub table-within : (m : ℕ) (xs : List ℤ) → T (all (small m) xs) → (i : ℕ) → Within m (getD xs i (pos 0))
-table-within m xs t i = record { le = leb→le (mag (getD xs i (pos 0))) m (each (small m) xs (le→leb 0 m zero-le) t i) }
+-- past the end stands 0
+pub table-within : (m : ℕ) (xs : List ℤ) → all (small m) xs ≡ true → (i : ℕ) → Within m (getD xs i (pos 0))
+table-within m xs e i = record { le = leb-true (mag (getD xs i (pos 0))) m (all-at (small m) (pos 0) xs e (le-leb 0 m zero-le) i) }
 
 -- ---- the table never decreases
 

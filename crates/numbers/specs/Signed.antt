@@ -12,6 +12,11 @@ minus (suc n) = negsuc n
 abbrev pub neg : ℤ → ℤ
 neg x = pos 0 -ℤ x
 
+-- a number as a natural one, 0 where it is negative
+abbrev pub natural : ℤ → ℕ
+natural (pos a) = a
+natural (negsuc a) = 0
+
 -- a shift rounds down
 infix 45 _>>_
 abbrev pub _>>_ : ℤ → ℕ → ℤ

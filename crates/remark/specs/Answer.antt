@@ -6,7 +6,7 @@ use lib.ListN.{length, take, drop}
 use Rattle.numbers.specs.Bytes.{copied}
 use Rattle.numbers.specs.Choice.{if_then_else_, _=?_}
 use Rattle.numbers.specs.Unsigned.{least}
-use Rattle.dsp.specs.Machine.{newDsp}
+use Rattle.dsp.specs.PowerOn.{newDsp}
 use Rattle.dsp.specs.declared.registers.Dsp.{Dsp}
 use Rattle.log.specs.Measure.{measureOf}
 use Rattle.sitting.specs.Run.{Outcome}

@@ -8,11 +8,11 @@ use native.Mathlib.Numerals.{add-one}
 use native.Mathlib.Omega.{arith}
 use lib.ListN.{length, take, drop, length-take}
 use borrow.Author.Count.{below-more}
-use Rattle.replay.specs.Leaves.{sizeOf, checkOf}
+use Rattle.dsp.specs.Noise.{Noise}
+use Rattle.replay.specs.Noise.{Check}
+use Rattle.replay.specs.Leaves.{recordSize, checkOf}
 use Rattle.replay.specs.Parts.{handedTo, checkAt, IsFront}
 use Rattle.replay.specs.declared.leaves.Leaf.{Leaf}
-use Rattle.replay.specs.declared.records.Carry.{Carry}
-use Rattle.replay.specs.declared.records.Checked.{Checked}
 
 pub added : (a n : ℕ) → a + n - a ≡ n
 added a n = omega arith
@@ -25,9 +25,9 @@ room k n m h = let l : suc k * n ≤ m / n * n = mul-le-mul-right n h in omega (
 pub upto : (a n m : ℕ) (xs : List ℕ) → a ≤ length (take n xs) / m → a ≤ n
 upto a n m xs h = omega (arith, length-take n xs, div-le-self (length (take n xs)) m)
 
-module _ (leaf : Leaf) (part : List ℕ) (carry : Carry) where
+module _ (leaf : Leaf) (part : List ℕ) (carry : Noise) where
   -- k records are equal, and h is handed to the next
-  pub record UpTo (k : ℕ) (h : Carry) : Type 0 where
+  pub record UpTo (k : ℕ) (h : Noise) : Type 0 where
     pub before : (j : ℕ) → j < k → checkAt leaf part carry j .equal ≡ true
     pub handed : h ≡ handedTo leaf part carry k
 
@@ -35,7 +35,7 @@ module _ (leaf : Leaf) (part : List ℕ) (carry : Carry) where
   unfolding handedTo
   none = record { before = λ j l. absurd (omega arith); handed = refl }
 
-  module _ (k : ℕ) (h : Carry) (n : ℕ) (r : Checked) (e : n ≡ sizeOf leaf) (u : UpTo k h)
+  module _ (k : ℕ) (h : Noise) (n : ℕ) (r : Check) (e : n ≡ recordSize leaf) (u : UpTo k h)
       (c : r ≡ checkOf leaf (take (k * n + n - k * n) (drop (k * n) part)) h) where
     is : r ≡ checkAt leaf part carry k
     unfolding checkAt
@@ -45,21 +45,21 @@ module _ (leaf : Leaf) (part : List ℕ) (carry : Carry) where
     unfolding handedTo checkAt
     one-more t =
         record {
-          before = below-more _ _ (u .before) (ap (λ (x : Checked). x .equal) (sym is) ∙ t);
-          handed = rw add-one (ap (λ (x : Checked). x .carry) is);
+          before = below-more _ _ (u .before) (ap (λ (x : Check). x .equal) (sym is) ∙ t);
+          handed = rw add-one (ap (λ (x : Check). x .carry) is);
         }
 
-    pub stops : k < length part / n → r .equal ≡ false → IsFront leaf part carry (record { equal = k; carry = h })
+    pub stops : k < length part / n → r .equal ≡ false → IsFront leaf part carry k h
     stops l t =
         record {
           within = (let d = ap (λ (m : ℕ). length part / m) e in omega arith);
           before = u .before;
-          differs = λ l. ap (λ (x : Checked). x .equal) (sym is) ∙ t;
+          differs = λ l. ap (λ (x : Check). x .equal) (sym is) ∙ t;
           handed = u .handed;
         }
 
-  pub ends : (k : ℕ) (h : Carry) (n : ℕ) → n ≡ sizeOf leaf → UpTo k h → k ≤ length part / n → length part / n ≤ k
-      → IsFront leaf part carry (record { equal = k; carry = h })
+  pub ends : (k : ℕ) (h : Noise) (n : ℕ) → n ≡ recordSize leaf → UpTo k h → k ≤ length part / n → length part / n ≤ k
+      → IsFront leaf part carry k h
   ends k h n e u l g =
       let d = ap (λ (m : ℕ). length part / m) e in
       record { within = omega arith; before = u .before; differs = λ l. absurd (omega arith); handed = u .handed }

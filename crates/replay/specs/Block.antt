@@ -8,13 +8,13 @@ use Rattle.numbers.specs.Choice.{if_then_else_, _≤?_, _=?_}
 use Rattle.numbers.specs.Unsigned.{wrapped}
 use Rattle.dsp.specs.declared.voice.Voice.{Voice}
 use Rattle.dsp.specs.declared.registers.Answer.{Answer}
-use Rattle.replay.specs.Records.{byteAt, u16At, i16At, _=ℤ?_}
-use Rattle.replay.specs.Machine.{zeros, steady, playback, keyedOn, tickOf, soundOf}
+use Rattle.replay.specs.Records.{u8At, u16At, i16At, _=ℤ?_}
+use Rattle.replay.specs.Machine.{zeros, steady, playback, playing, answered, soundOf}
 
 -- RAM with the first k bytes of a part at an address
 unfoldable pub laid : List ℕ → ℕ → ℕ → List ℕ → List ℕ
 laid part at zero ram = ram
-laid part at (suc k) ram = set (laid part at k ram) (wrapped (at + k)) (byteAt part k)
+laid part at (suc k) ram = set (laid part at k ram) (wrapped (at + k)) (u8At part k)
 
 -- the first k samples are those of the record
 unfoldable pub samplesEqual : List ℤ → List ℕ → ℕ → Bool
@@ -34,12 +34,12 @@ ramOf r = laid (take 2 r) (wrapped (u16At r 0 + 0x100)) 2 (laid (take 9 (drop 2 
 
 unfoldable pub playedBlock : List ℕ → Answer
 playedBlock r =
-    tickOf (keyedOn steady (playback (wrapped (u16At r 0 + 0x100)) (i16At r 11) (i16At r 13) 0) 0 (replicate 4 (pos 0))) (ramOf r)
+    answered (playing steady (playback (wrapped (u16At r 0 + 0x100)) (i16At r 11) (i16At r 13) 0) 0 (replicate 4 (pos 0))) (ramOf r)
 
 abbrev pub voiceSays : Voice → List ℕ → Bool
 voiceSays v r =
     samplesEqual (v .brr .«sample_buffer») r 16 && (v .brr .prev1 =ℤ? i16At r 47) && (v .brr .prev2 =ℤ? i16At r 49)
-    && flagsEqual (byteAt r 51) (v .brr .«block_end») (v .«key_on»)
+    && flagsEqual (u8At r 51) (v .brr .«block_end») (v .«key_on»)
 
 abbrev pub blockSays : Answer → List ℕ → Bool
 blockSays a r = (a .refusal =? 0) && voiceSays (soundOf (a .dsp)) r

@@ -4,8 +4,9 @@ use mathlib.Core.List.{List}
 use Prim.Native.Nat.{ℕ}
 use lib.IntN.{ℤ, pos}
 use lib.ListN.{getD, replicate, set}
-use Rattle.dsp.specs.Machine.{noVoice, newDsp, globOf, together}
-use Rattle.dsp.specs.Tick.{After, stepOf}
+use Rattle.dsp.specs.Machine.{noVoice, globalsOf, together}
+use Rattle.dsp.specs.PowerOn.{newDsp}
+use Rattle.dsp.specs.Ticks.{After, stepOf}
 use Rattle.dsp.specs.declared.adsr.EnvelopePhase.the-variants.{Attack}
 use Rattle.dsp.specs.declared.adsr.Adsr.{Adsr}
 use Rattle.dsp.specs.declared.brr.Brr.{Brr}
@@ -42,8 +43,8 @@ playback addr prev1 prev2 fill =
       «buffer_fill» = fill;
     }
 
-abbrev pub keyedOn : Adsr → Brr → ℕ → List ℤ → Voice
-keyedOn adsr brr position history =
+abbrev pub playing : Adsr → Brr → ℕ → List ℤ → Voice
+playing adsr brr position history =
     record {
       «left_vol» = pos 0;
       «right_vol» = pos 0;
@@ -58,8 +59,8 @@ keyedOn adsr brr position history =
     }
 
 -- d with another voice 0
-abbrev pub withVoice : Dsp → Voice → Dsp
-withVoice d v =
+abbrev pub withFirst : Dsp → Voice → Dsp
+withFirst d v =
     together
     (record {
       registers = d .registers;
@@ -68,14 +69,14 @@ withVoice d v =
       taps = d .«fir_coeff»;
       left = d .«fir_history_l»;
       right = d .«fir_history_r»;
-      glob = globOf d;
+      globals = globalsOf d;
     })
 
-abbrev pub answerOf : After → Answer
-answerOf a = record { refusal = a .refusal; dsp = a .dsp }
+abbrev pub asAnswer : After → Answer
+asAnswer a = record { refusal = a .refusal; dsp = a .dsp }
 
-unfoldable pub tickOf : Voice → List ℕ → Answer
-tickOf v ram = answerOf (stepOf (withVoice newDsp v) ram)
+unfoldable pub answered : Voice → List ℕ → Answer
+answered v ram = asAnswer (stepOf (withFirst newDsp v) ram)
 
 abbrev pub soundOf : Dsp → Voice
 soundOf d = getD (d .voices) 0 noVoice

@@ -4,27 +4,26 @@ use mathlib.Core.List.{List}
 use mathlib.Core.Path.{_≡_}
 use Prim.Native.Nat.{ℕ, zero, suc, _*_, _/_, _≤_, _<_}
 use lib.ListN.{length, take, drop}
-use Rattle.replay.specs.Leaves.{sizeOf, checkOf}
+use Rattle.dsp.specs.Noise.{Noise}
+use Rattle.replay.specs.Noise.{Check}
+use Rattle.replay.specs.Leaves.{recordSize, checkOf}
 use Rattle.replay.specs.declared.leaves.Leaf.{Leaf}
-use Rattle.replay.specs.declared.records.Carry.{Carry}
-use Rattle.replay.specs.declared.records.Checked.{Checked}
-use Rattle.replay.specs.declared.parts.Front.{Front}
 
-abbrev pub recordAt : Leaf → List ℕ → ℕ → List ℕ
-recordAt leaf part k = take (sizeOf leaf) (drop (k * sizeOf leaf) part)
+abbrev pub sliceAt : Leaf → List ℕ → ℕ → List ℕ
+sliceAt leaf part k = take (recordSize leaf) (drop (k * recordSize leaf) part)
 
-module _ (leaf : Leaf) (part : List ℕ) (carry : Carry) where
+module _ (leaf : Leaf) (part : List ℕ) (carry : Noise) where
   -- what record k is handed
-  unfoldable pub handedTo : ℕ → Carry
+  unfoldable pub handedTo : ℕ → Noise
   handedTo zero = carry
-  handedTo (suc k) = checkOf leaf (recordAt leaf part k) (handedTo k) .carry
+  handedTo (suc k) = checkOf leaf (sliceAt leaf part k) (handedTo k) .carry
 
-  unfoldable pub checkAt : ℕ → Checked
-  checkAt k = checkOf leaf (recordAt leaf part k) (handedTo k)
+  unfoldable pub checkAt : ℕ → Check
+  checkAt k = checkOf leaf (sliceAt leaf part k) (handedTo k)
 
-  -- the first record that differs is number `equal`, from 0; or all of them are equal
-  pub record IsFront (f : Front) : Type 0 where
-    pub within : f .equal ≤ length part / sizeOf leaf
-    pub before : (k : ℕ) → k < f .equal → checkAt k .equal ≡ true
-    pub differs : f .equal < length part / sizeOf leaf → checkAt (f .equal) .equal ≡ false
-    pub handed : f .carry ≡ handedTo (f .equal)
+  -- the first record that differs is number n, from 0; or all of them are equal. It is handed h
+  pub record IsFront (n : ℕ) (h : Noise) : Type 0 where
+    pub within : n ≤ length part / recordSize leaf
+    pub before : (k : ℕ) → k < n → checkAt k .equal ≡ true
+    pub differs : n < length part / recordSize leaf → checkAt n .equal ≡ false
+    pub handed : h ≡ handedTo n

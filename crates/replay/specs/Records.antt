@@ -7,15 +7,15 @@ use lib.ListN.{getD}
 use Rattle.numbers.specs.Choice.{_=?_}
 use Rattle.numbers.specs.Signed.{cutZ}
 
-abbrev pub byteAt : List ℕ → ℕ → ℕ
-byteAt bytes i = getD bytes i 0
+abbrev pub u8At : List ℕ → ℕ → ℕ
+u8At bytes i = getD bytes i 0
 
 -- 16 bits, low byte first
 abbrev pub u16At : List ℕ → ℕ → ℕ
-u16At bytes i = byteAt bytes i + 0x100 * byteAt bytes (i + 1)
+u16At bytes i = u8At bytes i + 0x100 * u8At bytes (i + 1)
 
 abbrev pub i8At : List ℕ → ℕ → ℤ
-i8At bytes i = cutZ 0x80 (pos (byteAt bytes i))
+i8At bytes i = cutZ 0x80 (pos (u8At bytes i))
 
 abbrev pub i16At : List ℕ → ℕ → ℤ
 i16At bytes i = cutZ 0x8000 (pos (u16At bytes i))

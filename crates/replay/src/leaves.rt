@@ -2,7 +2,9 @@
 ghost use mathlib.Core.Path.{_≡_};
 ghost use Prim.Native.Nat.{_≤_, _<_};
 ghost use lib.ListN.{length};
-ghost use Rattle.replay.specs.Leaves.{sizeOf, started, nibbleEqual, checkOf};
+ghost use Rattle.dsp.specs.Noise.{Noise};
+ghost use Rattle.replay.specs.Leaves.{recordSize, started, nibbleEqual, checkOf};
+ghost use Rattle.replay.specs.Noise.{Check};
 use crate::records::Carry;
 use crate::records::Checked;
 use crate::records::byte_at;
@@ -20,7 +22,7 @@ pub enum Leaf {
 }
 
 pub fn size(leaf: Leaf) -> usize
-    ensures { λ r. ⌜ (r ≡ sizeOf leaf) × (0 < r) × (r ≤ 0x10000) ⌝ }
+    ensures { λ r. ⌜ (r ≡ recordSize leaf) × (0 < r) × (r ≤ 0x10000) ⌝ }
 {
     match leaf {
         Leaf::Nibble => 9,
@@ -33,7 +35,7 @@ pub fn size(leaf: Leaf) -> usize
 
 // What the first record is handed: the noise of `new`.
 pub fn start() -> Carry
-    ensures { λ r. ⌜ r ≡ started ⌝ }
+    ensures { λ r. ⌜ _≡_ {A = Noise} (record { lfsr = r .lfsr; counter = r .counter }) started ⌝ }
 {
     let d = Dsp::new();
     Carry {
@@ -58,8 +60,8 @@ fn nibble(bytes: &[u8]) -> bool
 }
 
 pub fn check(leaf: Leaf, bytes: &[u8], carry: Carry) -> Checked
-    requires { ⌜ length (now bytes) ≡ sizeOf leaf ⌝ }
-    ensures { λ r. ⌜ r ≡ checkOf leaf (now (bytes .entry)) carry ⌝ }
+    requires { ⌜ length (now bytes) ≡ recordSize leaf ⌝ }
+    ensures { λ r. ⌜ _≡_ {A = Check} (record { equal = r .equal; carry = record { lfsr = r .carry .lfsr; counter = r .carry .counter } }) (checkOf leaf (now (bytes .entry)) (record { lfsr = carry .lfsr; counter = carry .counter })) ⌝ }
 {
     match leaf {
         Leaf::Nibble => Checked {

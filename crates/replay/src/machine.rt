@@ -1,7 +1,7 @@
 // The leaves that document 01 makes inner are reached through the public `step`: one tick of a record that is as
 // `new` gives it but for what the leaf is asked about.
 ghost use mathlib.Core.Path.{_≡_};
-ghost use Rattle.replay.specs.Machine.{zeros, steady, playback, keyedOn, tickOf, soundOf};
+ghost use Rattle.replay.specs.Machine.{zeros, steady, playback, playing, answered, soundOf};
 use dsp::Adsr;
 use dsp::Answer;
 use dsp::Brr;
@@ -49,7 +49,7 @@ pub fn playback(addr: u16, prev1: i16, prev2: i16, fill: u8) -> Brr
 
 // "Samples taken are the difference of position>>12": none at pitch 0, so that the history stays.
 pub fn keyed_on(adsr: Adsr, brr: Brr, position: u16, history: [i16; 4]) -> Voice
-    ensures { λ r. ⌜ r ≡ keyedOn adsr brr position history ⌝ }
+    ensures { λ r. ⌜ r ≡ playing adsr brr position history ⌝ }
 {
     Voice {
         left_vol: 0,
@@ -67,7 +67,7 @@ pub fn keyed_on(adsr: Adsr, brr: Brr, position: u16, history: [i16; 4]) -> Voice
 
 // One tick with this voice 0.
 pub fn tick(v: Voice, ram: &mut [u8]) -> Answer
-    ensures { λ r. ⌜ r ≡ tickOf v (now (ram .entry)) ⌝ }
+    ensures { λ r. ⌜ r ≡ answered v (now (ram .entry)) ⌝ }
 {
     let mut d = Dsp::new();
     d.voices[0] = v;

@@ -1,7 +1,7 @@
 // A record of the noise: FLG, of which bits 4-0 are the rate | sample after a tick. The records are one run.
 ghost use mathlib.Core.Path.{_≡_};
 ghost use lib.ListN.{length};
-ghost use Rattle.replay.specs.Noise.{noiseCheck};
+ghost use Rattle.replay.specs.Noise.{Check, noiseCheck};
 use crate::machine::empty_ram;
 use crate::machine::sound;
 use crate::records::Carry;
@@ -13,7 +13,7 @@ use dsp::Dsp;
 // "NON replaces the sample after the voice step": voice 0 shows the noise's sample.
 pub fn checked(bytes: &[u8], carry: Carry) -> Checked
     requires { ⌜ length (now bytes) ≡ 3 ⌝ }
-    ensures { λ r. ⌜ r ≡ noiseCheck (now (bytes .entry)) carry ⌝ }
+    ensures { λ r. ⌜ _≡_ {A = Check} (record { equal = r .equal; carry = record { lfsr = r .carry .lfsr; counter = r .carry .counter } }) (noiseCheck (now (bytes .entry)) (record { lfsr = carry .lfsr; counter = carry .counter })) ⌝ }
 {
     let mut d = Dsp::new();
     d.flg = byte_at(bytes, 0);

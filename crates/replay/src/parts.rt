@@ -34,7 +34,7 @@ pub struct Part {
 }
 
 fn front_of(leaf: Leaf, part: &[u8], carry: Carry) -> Front
-    ensures { λ r. ⌜ IsFront leaf (now (part .entry)) carry r ⌝ }
+    ensures { λ r. ⌜ IsFront leaf (now (part .entry)) (record { lfsr = carry .lfsr; counter = carry .counter }) (r .equal) (record { lfsr = r .carry .lfsr; counter = r .carry .counter }) ⌝ }
 {
     let n = size(leaf);
     let count = part.len() / n;

@@ -2,7 +2,7 @@
 ghost use mathlib.Core.Path.{_≡_};
 ghost use Prim.Native.Nat.{_+_, _<_};
 ghost use lib.ListN.{length};
-ghost use Rattle.replay.specs.Records.{byteAt, u16At, i8At, i16At, _=ℤ?_};
+ghost use Rattle.replay.specs.Records.{u8At, u16At, i8At, i16At, _=ℤ?_};
 
 // What a record hands on to the next one of its file: the noise, which alone has a state.
 pub struct Carry {
@@ -17,7 +17,7 @@ pub struct Checked {
 
 pub fn byte_at(bytes: &[u8], i: usize) -> u8
     requires { ⌜ i < length (now bytes) ⌝ }
-    ensures { λ r. ⌜ r ≡ byteAt (now (bytes .entry)) i ⌝ }
+    ensures { λ r. ⌜ r ≡ u8At (now (bytes .entry)) i ⌝ }
 {
     bytes[i]
 }

@@ -5,7 +5,7 @@ use Prim.Native.Nat.{ℕ, _*_}
 use lib.ListN.{length, take, drop, replicate}
 use Rattle.numbers.specs.Choice.{if_then_else_}
 use Rattle.numbers.specs.Unsigned.{least}
-use Rattle.dsp.specs.Machine.{newDsp}
+use Rattle.dsp.specs.PowerOn.{newDsp}
 use Rattle.dsp.specs.declared.registers.Dsp.{Dsp}
 use Rattle.log.specs.Log.{decode}
 use Rattle.log.specs.Measure.{measureOf}
@@ -32,8 +32,8 @@ roomIn ticks count pcm sheet readings = roomWithin (roomFor ticks count) (length
 
 -- ---- a run that is lent the first bytes of each slice, as many as its log needs
 
-abbrev pub startOf : Bool → Dsp → Dsp
-startOf ofNew start = if ofNew then newDsp else start
+abbrev pub startFrom : Bool → Dsp → Dsp
+startFrom ofNew start = if ofNew then newDsp else start
 
 -- what stands behind them stays
 abbrev pub withRest : Room → List ℕ → List ℕ → List ℕ → Outcome → Outcome

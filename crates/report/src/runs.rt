@@ -7,7 +7,7 @@ ghost use Rattle.numbers.specs.Bytes.{copied};
 ghost use Rattle.numbers.specs.Unsigned.{least as leastOf};
 ghost use Rattle.sitting.specs.Run.{Outcome, runOf};
 ghost use Rattle.report.specs.Digest.{digestOf, leftBy};
-ghost use Rattle.report.specs.Runs.{roomFor, roomWithin, startOf, runCut, leftOf, Through, through, wholeOf, registersIn};
+ghost use Rattle.report.specs.Runs.{roomFor, roomWithin, startFrom, runCut, leftOf, Through, through, wholeOf, registersIn};
 use crate::digest::EMPTY;
 use crate::digest::with_bytes;
 use crate::left::Left;
@@ -76,7 +76,7 @@ pub struct Whole {
 // From `new` by `run_new`, or from a record by `run`; told or not. Room for any log: 32,000 ticks with 4 bytes of PCM and 36 of
 // sheet each, 20,000 readings with 3 bytes of the log each.
 pub fn run_whole(of_new: bool, told: bool, start: Dsp, log: &[u8], ram: &mut [u8]) -> Whole
-    ensures { λ r. ⌜ _≡_ {A = Through} (record { refusal = r .refusal; dsp = r .dsp; left = r .left; ram = now (ram .exit) }) (wholeOf told (startOf «of_new» start) (now (ram .entry)) (now (log .entry))) ⌝ }
+    ensures { λ r. ⌜ _≡_ {A = Through} (record { refusal = r .refusal; dsp = r .dsp; left = r .left; ram = now (ram .exit) }) (wholeOf told (startFrom «of_new» start) (now (ram .entry)) (now (log .entry))) ⌝ }
 {
     let mut pcm = [0; 128000];
     let mut sheet = [0; 1152000];
@@ -104,7 +104,7 @@ fn run_in(
     sheet: &mut [u8; 1152000],
     readings: &mut [u8; 20000],
 ) -> Whole
-    ensures { λ r. ⌜ _≡_ {A = Through} (record { refusal = r .refusal; dsp = r .dsp; left = r .left; ram = now (ram .exit) }) (through told (runCut (startOf «of_new» start) (now (ram .entry)) (now (log .entry)) (now (pcm .entry)) (now (sheet .entry)) (now (readings .entry)))) ⌝ }
+    ensures { λ r. ⌜ _≡_ {A = Through} (record { refusal = r .refusal; dsp = r .dsp; left = r .left; ram = now (ram .exit) }) (through told (runCut (startFrom «of_new» start) (now (ram .entry)) (now (log .entry)) (now (pcm .entry)) (now (sheet .entry)) (now (readings .entry)))) ⌝ }
 {
     run_told(of_new, told, start, log, ram, pcm, sheet, readings)
 }
@@ -119,7 +119,7 @@ fn run_told(
     sheet: &mut [u8],
     readings: &mut [u8],
 ) -> Whole
-    ensures { λ r. ⌜ _≡_ {A = Through} (record { refusal = r .refusal; dsp = r .dsp; left = r .left; ram = now (ram .exit) }) (through told (runCut (startOf «of_new» start) (now (ram .entry)) (now (log .entry)) (now (pcm .entry)) (now (sheet .entry)) (now (readings .entry)))) ⌝ }
+    ensures { λ r. ⌜ _≡_ {A = Through} (record { refusal = r .refusal; dsp = r .dsp; left = r .left; ram = now (ram .exit) }) (through told (runCut (startFrom «of_new» start) (now (ram .entry)) (now (log .entry)) (now (pcm .entry)) (now (sheet .entry)) (now (readings .entry)))) ⌝ }
 {
     let r = run_cut(of_new, start, ram, log, pcm, sheet, readings);
     let d = r.dsp;
@@ -147,7 +147,7 @@ pub fn run_cut(
     sheet: &mut [u8],
     readings: &mut [u8],
 ) -> Ran
-    ensures { λ r. ⌜ _≡_ {A = Outcome} (record { refusal = r .refusal; dsp = r .dsp; ticks = r .ticks; count = r .readings; ram = now (ram .exit); pcm = now (pcm .exit); sheet = now (sheet .exit); readings = now (readings .exit) }) (runCut (startOf «of_new» start) (now (ram .entry)) (now (log .entry)) (now (pcm .entry)) (now (sheet .entry)) (now (readings .entry))) ⌝ }
+    ensures { λ r. ⌜ _≡_ {A = Outcome} (record { refusal = r .refusal; dsp = r .dsp; ticks = r .ticks; count = r .readings; ram = now (ram .exit); pcm = now (pcm .exit); sheet = now (sheet .exit); readings = now (readings .exit) }) (runCut (startFrom «of_new» start) (now (ram .entry)) (now (log .entry)) (now (pcm .entry)) (now (sheet .entry)) (now (readings .entry))) ⌝ }
 {
     let m = measure(log);
     let n = room_for(m.ticks, m.readings).within(pcm.len(), sheet.len(), readings.len());
@@ -172,7 +172,7 @@ pub fn run_on(
     sheet: &mut [u8],
     readings: &mut [u8],
 ) -> Ran
-    ensures { λ r. ⌜ _≡_ {A = Outcome} (record { refusal = r .refusal; dsp = r .dsp; ticks = r .ticks; count = r .readings; ram = now (ram .exit); pcm = now (pcm .exit); sheet = now (sheet .exit); readings = now (readings .exit) }) (runOf (startOf «of_new» start) (now (ram .entry)) (now (log .entry)) (now (pcm .entry)) (now (sheet .entry)) (now (readings .entry))) ⌝ }
+    ensures { λ r. ⌜ _≡_ {A = Outcome} (record { refusal = r .refusal; dsp = r .dsp; ticks = r .ticks; count = r .readings; ram = now (ram .exit); pcm = now (pcm .exit); sheet = now (sheet .exit); readings = now (readings .exit) }) (runOf (startFrom «of_new» start) (now (ram .entry)) (now (log .entry)) (now (pcm .entry)) (now (sheet .entry)) (now (readings .entry))) ⌝ }
 {
     if of_new {
         return run_new(ram, log, pcm, sheet, readings);

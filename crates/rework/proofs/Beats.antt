@@ -16,15 +16,14 @@ use Rattle.log.specs.declared.Record.the-variants.{Write, Ticks, Reading}
 use Rattle.log.specs.declared.Next.{Next}
 use Rattle.log.specs.declared.Next.the-variants.{On, Off}
 use Rattle.log.proofs.Places.{moves, ByteValue, byte-value}
-use Rattle.rework.specs.declared.modes.Modes.{Modes}
 use Rattle.rework.specs.Alike.{named, stays, without}
-use Rattle.rework.specs.Members.{modesAfter, quiet, joinedBy, joinedOver, members}
+use Rattle.rework.specs.Members.{Fields, modesAfter, quiet, joinedBy, joinedOver, members}
 use Rattle.rework.proofs.Bits.{itself}
 use Rattle.rework.proofs.Tape.{Beat, put, tick, ask, ticksThen, beats, Small, keep, Quiet, joins}
 
 -- ---- a named voice's own write changes neither field
 
-own-modes : (s r x : ℕ) (m : Modes) → stays s (Write r x) ≡ false → modesAfter r x m ≡ m
+own-modes : (s r x : ℕ) (m : Fields) → stays s (Write r x) ≡ false → modesAfter r x m ≡ m
 own-modes s r x m e =
     let l = (lt (r % 16) 8 and itself (bit s (r / 16))) .sound (not-false (named s r) e) .0 in
     rw (ne-eqb r 0x6C (λ z. absurd (omega (arith, l, z))), ne-eqb r 0x2D (λ z. absurd (omega (arith, l, z))))
@@ -50,16 +49,16 @@ keep-beats s (Ticks n ∷ rs) = keep-ticks s n (beats rs) ∙ ap (ticksThen n) (
 keep-beats s (Reading r ∷ rs) = ap (λ (l : List Beat). ask r ∷ l) (keep-beats s rs)
 
 -- neither the set nor the quiet sees what is left out
-pub members-without : (s : ℕ) (rs : List Record) (m : Modes) (a : ℕ) → members (without s rs) m a ≡ members rs m a
+pub members-without : (s : ℕ) (rs : List Record) (m : Fields) (a : ℕ) → members (without s rs) m a ≡ members rs m a
 unfolding members without
 members-without s [] m a = refl
 members-without s (Write r x ∷ rs) m a =
     tested (λ (l : List Record). members l m a ≡ members rs (modesAfter r x m) a) (stays s (Write r x)) (λ _. members-without s rs (modesAfter r x m) a)
-    (λ e. members-without s rs m a ∙ ap (λ (k : Modes). members rs k a) (sym (own-modes s r x m e)))
+    (λ e. members-without s rs m a ∙ ap (λ (k : Fields). members rs k a) (sym (own-modes s r x m e)))
 members-without s (Ticks n ∷ rs) m a = members-without s rs m (joinedOver n (m .pmon) a)
 members-without s (Reading r ∷ rs) m a = members-without s rs m a
 
-pub quiet-without : (s : ℕ) (rs : List Record) (m : Modes) → quiet (without s rs) m ≡ quiet rs m
+pub quiet-without : (s : ℕ) (rs : List Record) (m : Fields) → quiet (without s rs) m ≡ quiet rs m
 unfolding quiet without
 quiet-without s [] m = refl
 quiet-without s (Write r x ∷ rs) m =
@@ -75,29 +74,29 @@ unfolding joinedOver
 over-first zero pmon a = refl
 over-first (suc n) pmon a = ap (joinedBy pmon) (over-first n pmon a)
 
-joins-ticks : (n : ℕ) (bs : List Beat) (m : Modes) (a : ℕ) → joins (ticksThen n bs) m a ≡ joins bs m (joinedOver n (m .pmon) a)
+joins-ticks : (n : ℕ) (bs : List Beat) (m : Fields) (a : ℕ) → joins (ticksThen n bs) m a ≡ joins bs m (joinedOver n (m .pmon) a)
 unfolding ticksThen joins joinedOver
 joins-ticks zero bs m a = refl
 joins-ticks (suc n) bs m a = joins-ticks n bs m (joinedBy (m .pmon) a) ∙ ap (joins bs m) (over-first n (m .pmon) a)
 
-pub joins-beats : (rs : List Record) (m : Modes) (a : ℕ) → joins (beats rs) m a ≡ members rs m a
+pub joins-beats : (rs : List Record) (m : Fields) (a : ℕ) → joins (beats rs) m a ≡ members rs m a
 unfolding joins beats members
 joins-beats [] m a = refl
 joins-beats (Write r x ∷ rs) m a = joins-beats rs (modesAfter r x m) a
 joins-beats (Ticks n ∷ rs) m a = joins-ticks n (beats rs) m a ∙ joins-beats rs m (joinedOver n (m .pmon) a)
 joins-beats (Reading r ∷ rs) m a = joins-beats rs m a
 
-quiet-more : (n : ℕ) (bs : List Beat) (m : Modes) → bit (m .flg) 5 ≡ true → Quiet bs m → Quiet (ticksThen n bs) m
+quiet-more : (n : ℕ) (bs : List Beat) (m : Fields) → bit (m .flg) 5 ≡ true → Quiet bs m → Quiet (ticksThen n bs) m
 unfolding ticksThen Quiet
 quiet-more zero bs m e q = q
 quiet-more (suc n) bs m e q = (e, quiet-more n bs m e q)
 
-quiet-ticks : (n : ℕ) (bs : List Beat) (m : Modes) → ((n =? 0) || bit (m .flg) 5) ≡ true → Quiet bs m → Quiet (ticksThen n bs) m
+quiet-ticks : (n : ℕ) (bs : List Beat) (m : Fields) → ((n =? 0) || bit (m .flg) 5) ≡ true → Quiet bs m → Quiet (ticksThen n bs) m
 unfolding ticksThen
 quiet-ticks zero bs m e q = q
 quiet-ticks (suc n) bs m e q = quiet-more (suc n) bs m (sym (ap (λ (b : Bool). b || bit (m .flg) 5) (ne-eqb (suc n) 0 (omega arith))) ∙ e) q
 
-pub quiet-beats : (rs : List Record) (m : Modes) → quiet rs m ≡ true → Quiet (beats rs) m
+pub quiet-beats : (rs : List Record) (m : Fields) → quiet rs m ≡ true → Quiet (beats rs) m
 unfolding quiet Quiet beats
 quiet-beats [] m e = tt
 quiet-beats (Write r x ∷ rs) m e = quiet-beats rs (modesAfter r x m) e

@@ -1,4 +1,4 @@
--- The bits of a byte, and the set of voices that a byte holds: what joins it stays, and a set that a tick's rule has made is closed
+-- Two bytes in one, and the set of voices that a byte holds: what joins it stays, and a set that a tick's rule has made is closed
 -- under that tick's PMON.
 use mathlib.Core.Bool.{Bool, true, false, _&&_}
 use mathlib.Core.Logic.{_≢_}
@@ -6,27 +6,21 @@ use mathlib.Core.Path.{_≡_, refl, sym, ap, _∙_}
 use Prim.Native.Nat.{ℕ, zero, suc, _+_, _-_, _*_, _/_, _%_, _^_, _≤_, _<_, min, max}
 use native.Mathlib.Omega.{arith}
 use native.Mathlib.Nat.{lt-of-le-of-lt}
-use native.Mathlib.Numerals.{one-add}
 use native.Mathlib.Decide.{ℕ-discrete}
-use borrow.Author.Tests.{eqb-true, eqb-false, eq-eqb, ne-eqb}
+use borrow.Author.Tests.{eqb-true, eqb-false}
 use lib.Bits.{bitAnd, bitOr, bitXor, differ, and-shr, or-shr, xor-shr, and-step, or-step, xor-step, and-le-l, or-lt, and-mask, xor-add-and}
 use lib.Count.{ones, ones-step}
-use lib.Pow.{pow-lt, shr-shr}
-use Rattle.numbers.specs.Choice.{if_then_else_, _=?_}
+use lib.Pow.{pow-pos}
+use Rattle.numbers.specs.Choice.{if_then_else_}
 use Rattle.numbers.proofs.Choice.{tested, chosen}
 use Rattle.numbers.specs.Bits.{bit, withBit}
-use Rattle.dsp.specs.Registers.{turns}
+use Rattle.numbers.proofs.Bits.{digit, digit-half, byte-ext, bit-here, bit-there, with-byte}
+use Rattle.numbers.specs.Listed.{turns}
 use Rattle.dsp.proofs.Tests.{Decides, _and_}
-use Rattle.dsp.proofs.Turns.{turns-keep}
-use Rattle.rework.specs.Members.{joinAfter, joinedBy, counted, voicesIn}
+use Rattle.numbers.proofs.Turns.{turns-keep}
+use Rattle.rework.specs.Members.{joinAfter, joinedBy, countedIn, voicesIn}
 
 -- ---- digits
-
-abbrev digit : ℕ → ℕ → ℕ
-digit x k = x / 2 ^ k % 2
-
-digit-half : (x k : ℕ) → digit (x / 2) k ≡ digit x (suc k)
-digit-half x k = ap (λ (n : ℕ). n % 2) (shr-shr x 1 k ∙ ap (λ (n : ℕ). x / 2 ^ n) (one-add k))
 
 -- an operation that goes digit by digit
 op-digit : (op f : ℕ → ℕ → ℕ) → ((x y k : ℕ) → op x y / 2 ^ k ≡ op (x / 2 ^ k) (y / 2 ^ k)) → ((x y : ℕ) → op x y ≡ op (x / 2) (y / 2) * 2 + f (x % 2) (y % 2))
@@ -41,15 +35,7 @@ and-digit = op-digit bitAnd min and-shr and-step (λ d e a b. omega arith)
 or-digit : (x y k : ℕ) → digit (bitOr x y) k ≡ max (digit x k) (digit y k)
 or-digit = op-digit bitOr max or-shr or-step (λ d e a b. omega arith)
 
--- numbers of w digits that are equal digit by digit
-digits-ext : (w x y : ℕ) → x < 2 ^ w → y < 2 ^ w → ((k : ℕ) → k < w → digit x k ≡ digit y k) → x ≡ y
-digits-ext zero x y l m h = omega arith
-digits-ext (suc w) x y l m h =
-    let e = h 0 (omega arith) in
-    let f = digits-ext w (x / 2) (y / 2) (omega arith) (omega arith) (λ k n. digit-half x k ∙ h (suc k) (omega arith) ∙ sym (digit-half y k)) in
-    omega (arith, e, f)
-
--- ---- bits
+-- ---- tests
 
 -- a test for its own passing
 pub itself : (b : Bool) → Decides b (b ≡ true)
@@ -58,68 +44,6 @@ itself b = record { sound = λ e. e; holds = λ e. e }
 pub unless : (b : Bool) → (b ≡ true → ⊥) → b ≡ false
 unless true h = absurd (h refl)
 unless false h = refl
-
--- a test that passes at each number below n
-unfoldable all : (ℕ → Bool) → ℕ → Bool
-all f zero = true
-all f (suc n) = f n && all f n
-
-all-at : (f : ℕ → Bool) (n : ℕ) → all f n ≡ true → (k : ℕ) → k < n → f k ≡ true
-unfolding all
-all-at f zero e k l = absurd (omega arith)
-all-at f (suc n) e k l =
-    let t = (itself (f n) and itself (all f n)) .sound e in
-    elim (ℕ-discrete k n) [
-      | yes p ↦ ap f p ∙ t .0
-      | no p ↦ all-at f n (t .1) k (omega arith)
-    ]
-
--- bytes of which bit n is x and each other is y
-table : (byte : ℕ → ℕ) (x y : ℕ) → all (λ (n : ℕ). all (λ (k : ℕ). digit (byte n) k =? (if k =? n then x else y)) 8) 8 ≡ true
-    → (n k : ℕ) → n < 8 → k < 8 → digit (byte n) k ≡ (if k =? n then x else y)
-table byte x y e n k l m =
-    let at : ℕ → ℕ → Bool = (λ n k. digit (byte n) k =? (if k =? n then x else y)) in
-    eqb-true _ _ (all-at (at n) 8 (all-at (λ (i : ℕ). all (at i) 8) 8 e n l) k m)
-
-marked : (b : Bool) (d : ℕ) → d < 2 → (max d (if b then 1 else 0) ≡ (if b then 1 else d)) × (min d (if b then 0 else 1) ≡ (if b then 0 else d))
-marked true d l = omega arith
-marked false d l = omega arith
-
--- the digits of a byte with one bit as given
-with-digit : (x n k : ℕ) (on : Bool) → n < 8 → k < 8 → digit (withBit x n on) k ≡ (if k =? n then (if on then 1 else 0) else digit x k)
-unfolding withBit all
-with-digit x n k true l m =
-    or-digit x (2 ^ n) k ∙ ap (max (digit x k)) (table (λ (i : ℕ). 2 ^ i) 1 0 refl n k l m)
-    ∙ marked (k =? n) (digit x k) (omega arith) .0
-with-digit x n k false l m =
-    and-digit x (255 - 2 ^ n) k ∙ ap (min (digit x k)) (table (λ (i : ℕ). 255 - 2 ^ i) 0 1 refl n k l m)
-    ∙ marked (k =? n) (digit x k) (omega arith) .1
-
-one-bit : (on : Bool) → ((if on then 1 else 0) =? 1) ≡ on
-one-bit true = refl
-one-bit false = refl
-
-pub bit-here : (x n : ℕ) (on : Bool) → n < 8 → bit (withBit x n on) n ≡ on
-bit-here x n on l = rw (with-digit x n n on l l, eq-eqb n n refl) (one-bit on)
-
-pub bit-there : (x n k : ℕ) (on : Bool) → n < 8 → k < 8 → k ≢ n → bit (withBit x n on) k ≡ bit x k
-bit-there x n k on l m h = rw (with-digit x n k on l m, ne-eqb k n h)
-
-pub with-byte : (x n : ℕ) (on : Bool) → x < 256 → n < 8 → withBit x n on < 256
-unfolding withBit
-with-byte x n true l m = or-lt 8 x (2 ^ n) l (pow-lt m)
-with-byte x n false l m = lt-of-le-of-lt (and-le-l x (255 - 2 ^ n)) l
-
-same-digit : (d e : ℕ) → d < 2 → e < 2 → (d =? 1) ≡ (e =? 1) → d ≡ e
-same-digit d e l m h =
-    elim (ℕ-discrete d 1) [
-      | yes p ↦ p ∙ sym (eqb-true e 1 (sym h ∙ eq-eqb d 1 p))
-      | no p ↦ let q = eqb-false e 1 (sym h ∙ ne-eqb d 1 p) in omega arith
-    ]
-
--- bytes that are equal bit by bit
-pub byte-ext : (x y : ℕ) → x < 256 → y < 256 → ((k : ℕ) → k < 8 → bit x k ≡ bit y k) → x ≡ y
-byte-ext x y l m h = digits-ext 8 x y l m (λ k n. same-digit (digit x k) (digit y k) (omega arith) (omega arith) (h k n))
 
 -- ---- two bytes in one
 
@@ -134,9 +58,12 @@ differ-small (suc zero) zero l m = omega arith
 differ-small (suc zero) (suc e) l m = omega arith
 differ-small (suc (suc d)) e l m = absurd (omega arith)
 
-ones-digit : (k : ℕ) → k < 8 → digit 255 k ≡ 1
-unfolding all
-ones-digit k l = eqb-true _ _ (all-at (λ (i : ℕ). digit 255 i =? 1) 8 refl k l)
+ones-digit : (w k : ℕ) → k < w → digit (2 ^ w - 1) k ≡ 1
+ones-digit zero k l = absurd (omega arith)
+ones-digit (suc w) zero l = omega (arith, pow-pos w)
+ones-digit (suc w) (suc k) l =
+    let h : (2 ^ suc w - 1) / 2 ≡ 2 ^ w - 1 = omega (arith, pow-pos w) in
+    sym (digit-half (2 ^ suc w - 1) k) ∙ ap (λ (x : ℕ). digit x k) h ∙ ones-digit w k (omega arith)
 
 -- the digits that are not a's
 rest-digit : (a k : ℕ) → k < 8 → digit (255 - a % 256) k ≡ 1 - digit a k
@@ -146,7 +73,7 @@ rest-digit a k l =
     let f : bitAnd b 255 ≡ b % 256 = and-mask b 8 in
     let g : 255 - a % 256 ≡ bitXor b 255 = (let h = xor-add-and b 255 in omega (arith, e, f, h)) in
     let x = op-digit bitXor differ xor-shr xor-step differ-small b 255 k in
-    let o = ones-digit k l in
+    let o = ones-digit 8 k l in
     let i : digit b k ≡ digit a k = (let y = and-digit a 255 k in omega (arith, y, o)) in
     ap (λ (n : ℕ). digit n k) g ∙ x ∙ rw (o, i) (differ-one (digit a k) (omega arith))
 
@@ -171,33 +98,33 @@ mixed-byte a x y l m = or-lt 8 (bitAnd x a) (bitAnd y (255 - a % 256)) (lt-of-le
 -- ---- the set
 
 -- bit k of the set after voice n + 1 had its turn to join: it is as it was, but for bit n + 1
-join-there : (pmon n a k : ℕ) → n < 7 → k < 8 → k ≢ n + 1 → bit (joinAfter pmon n a) k ≡ bit a k
-join-there pmon n a k l m h =
-    tested (λ (x : ℕ). bit x k ≡ bit a k) (bit a n && bit pmon (n + 1)) (λ e. bit-there a (n + 1) k true (omega arith) m h) (λ e. refl)
+join-there : (pmon n a k : ℕ) → k ≢ n + 1 → bit (joinAfter pmon n a) k ≡ bit a k
+join-there pmon n a k h =
+    tested (λ (x : ℕ). bit x k ≡ bit a k) (bit a n && bit pmon (n + 1)) (λ e. bit-there a (n + 1) k true h) (λ e. refl)
 
-join-more : (pmon n a k : ℕ) → n < 7 → k < 8 → bit a k ≡ true → bit (joinAfter pmon n a) k ≡ true
-join-more pmon n a k l m h =
+join-more : (pmon n a k : ℕ) → bit a k ≡ true → bit (joinAfter pmon n a) k ≡ true
+join-more pmon n a k h =
     tested (λ (x : ℕ). bit x k ≡ true) (bit a n && bit pmon (n + 1))
-    (λ e. elim (ℕ-discrete k (n + 1)) [ yes p ↦ ap (bit (withBit a (n + 1) true)) p ∙ bit-here a (n + 1) true (omega arith) | no p ↦ bit-there a (n + 1) k true (omega arith) m p ∙ h ])
+    (λ e. elim (ℕ-discrete k (n + 1)) [ yes p ↦ ap (bit (withBit a (n + 1) true)) p ∙ bit-here a (n + 1) true | no p ↦ bit-there a (n + 1) k true p ∙ h ])
     (λ e. h)
 
-join-here : (pmon n a : ℕ) → n < 7 → bit a n ≡ true → bit pmon (n + 1) ≡ true → bit (joinAfter pmon n a) (n + 1) ≡ true
-join-here pmon n a l h k = rw (h, k) (bit-here a (n + 1) true (omega arith))
+join-here : (pmon n a : ℕ) → bit a n ≡ true → bit pmon (n + 1) ≡ true → bit (joinAfter pmon n a) (n + 1) ≡ true
+join-here pmon n a h k = rw (h, k) (bit-here a (n + 1) true)
 
 -- the set only grows
 pub joined-more : (pmon a j : ℕ) → j < 8 → bit a j ≡ true → bit (joinedBy pmon a) j ≡ true
 unfolding joinedBy
-joined-more pmon a j l h = turns-keep (λ (x : ℕ). bit x j ≡ true) (joinAfter pmon) 7 (λ n x m k. join-more pmon n x j m l k) 7 a (omega arith) h
+joined-more pmon a j l h = turns-keep (λ (x : ℕ). bit x j ≡ true) (joinAfter pmon) 7 (λ n x m k. join-more pmon n x j k) 7 a (omega arith) h
 
 closed-after : (pmon a j n : ℕ) → n ≤ 7 → j < n → bit (turns (joinAfter pmon) n a) j ≡ true → bit pmon (j + 1) ≡ true → bit (turns (joinAfter pmon) n a) (j + 1) ≡ true
 unfolding turns
 closed-after pmon a j zero l m h k = absurd (omega arith)
 closed-after pmon a j (suc n) l m h k =
     let b = turns (joinAfter pmon) n a in
-    let g : bit b j ≡ true = sym (join-there pmon n b j (omega arith) (omega arith) (omega arith)) ∙ h in
+    let g : bit b j ≡ true = sym (join-there pmon n b j (omega arith)) ∙ h in
     elim (ℕ-discrete j n) [
-      | yes p ↦ rw p (join-here pmon n b (omega arith) (rw p at g) (rw p at k))
-      | no p ↦ join-more pmon n b (j + 1) (omega arith) (omega arith) (closed-after pmon a j n (omega arith) (omega arith) g k)
+      | yes p ↦ rw p (join-here pmon n b (rw p at g) (rw p at k))
+      | no p ↦ join-more pmon n b (j + 1) (closed-after pmon a j n (omega arith) (omega arith) g k)
     ]
 
 -- a voice behind one of the set is of the set where PMON selects it
@@ -214,7 +141,7 @@ joined-byte pmon a h =
 with-same : (x n : ℕ) → x < 256 → n < 8 → bit x n ≡ true → withBit x n true ≡ x
 with-same x n l m h =
     byte-ext (withBit x n true) x (with-byte x n true l m) l
-    (λ k b. elim (ℕ-discrete k n) [ yes p ↦ rw p (bit-here x n true m ∙ sym h) | no p ↦ bit-there x n k true m b p ])
+    (λ k b. elim (ℕ-discrete k n) [ yes p ↦ rw p (bit-here x n true ∙ sym h) | no p ↦ bit-there x n k true p ])
 
 -- a set that no turn changes
 joined-still : (pmon b : ℕ) → ((n : ℕ) → n < 7 → joinAfter pmon n b ≡ b) → joinedBy pmon b ≡ b
@@ -235,20 +162,20 @@ joined-twice pmon a h =
 
 -- ---- how many they are
 
-counted-is : (a n m : ℕ) → counted a n m ≡ m + digit a n
+counted-is : (a n m : ℕ) → countedIn a n m ≡ m + digit a n
 counted-is a n m =
     tested (λ (x : ℕ). x ≡ m + digit a n) (bit a n) (λ e. let f = eqb-true (digit a n) 1 e in omega arith) (λ e. let f = eqb-false (digit a n) 1 e in omega arith)
 
 -- the lowest digit, and the others
-counted-step : (a n : ℕ) → turns (counted a) (suc n) 0 ≡ a % 2 + turns (counted (a / 2)) n 0
+counted-step : (a n : ℕ) → turns (countedIn a) (suc n) 0 ≡ a % 2 + turns (countedIn (a / 2)) n 0
 unfolding turns
 counted-step a zero = counted-is a 0 0 ∙ omega arith
 counted-step a (suc n) =
     let i = counted-step a n in
-    let e = counted-is (a / 2) n (turns (counted (a / 2)) n 0) in
-    counted-is a (suc n) (turns (counted a) (suc n) 0) ∙ omega (arith, i, e, digit-half a n)
+    let e = counted-is (a / 2) n (turns (countedIn (a / 2)) n 0) in
+    counted-is a (suc n) (turns (countedIn a) (suc n) 0) ∙ omega (arith, i, e, digit-half a n)
 
-ones-counted : (w a : ℕ) → a < 2 ^ w → ones a ≡ turns (counted a) w 0
+ones-counted : (w a : ℕ) → a < 2 ^ w → ones a ≡ turns (countedIn a) w 0
 unfolding ones turns
 ones-counted zero a l = let e : a ≡ 0 = omega arith in ap ones e
 ones-counted (suc w) a l = ones-step a ∙ ap (λ (n : ℕ). a % 2 + n) (ones-counted w (a / 2) (omega arith)) ∙ sym (counted-step a w)

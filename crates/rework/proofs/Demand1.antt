@@ -5,7 +5,7 @@ use Prim.Native.Nat.{ℕ}
 use borrow.Author.Tests.{eqb-true}
 use Rattle.numbers.specs.Choice.{if_then_else_, _=?_}
 use Rattle.numbers.proofs.Choice.{tested}
-use Rattle.dsp.specs.Machine.{newDsp}
+use Rattle.dsp.specs.PowerOn.{newDsp}
 use Rattle.dsp.specs.Tick.{everything}
 use Rattle.dsp.proofs.Fits.{new-fit}
 use Rattle.sitting.specs.Run.{runOf}

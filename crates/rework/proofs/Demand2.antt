@@ -7,7 +7,8 @@ use lib.ListN.{length, getD}
 use borrow.Author.Tests.{eq-eqb}
 use Rattle.dsp.specs.Machine.{Parts, together}
 use Rattle.dsp.specs.Registers.{writeParts, writeAt, writeOf}
-use Rattle.dsp.specs.Tick.{everything, tickOf, Bench, benchTick, ticksOf, ticked, stepOf}
+use Rattle.dsp.specs.Tick.{everything, tickOf}
+use Rattle.dsp.specs.Ticks.{Bench, benchTick, ticksOf, ticked, stepOf}
 use Rattle.dsp.specs.declared.registers.Dsp.{Dsp}
 use Rattle.dsp.proofs.Fits.{fit-facts}
 use Rattle.dsp.proofs.Whole.{tick-whole, tick-renders}

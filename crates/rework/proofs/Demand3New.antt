@@ -8,8 +8,10 @@ use lib.ListN.{length}
 use borrow.Author.Tests.{eqb-true, eqb-false}
 use Rattle.numbers.specs.Choice.{_=?_}
 use Rattle.numbers.proofs.Choice.{tested}
-use Rattle.dsp.specs.Machine.{newDsp, apart}
-use Rattle.dsp.specs.Tick.{everything, benchOf}
+use Rattle.dsp.specs.Machine.{apart}
+use Rattle.dsp.specs.PowerOn.{newDsp}
+use Rattle.dsp.specs.Tick.{everything}
+use Rattle.dsp.specs.Ticks.{benchOf}
 use Rattle.log.specs.Log.{decode}
 use Rattle.log.specs.Measure.{ticksIn, readingsIn, measureOf}
 use Rattle.log.specs.declared.Record.{Record}

@@ -10,12 +10,13 @@ use lib.ListN.{getD, length}
 use Rattle.numbers.specs.Choice.{_=?_}
 use Rattle.numbers.proofs.Choice.{tested}
 use Rattle.numbers.specs.Bits.{bit}
+use Rattle.numbers.proofs.Bits.{byte-ext}
 use Rattle.dsp.specs.Machine.{noVoice, Parts}
 use Rattle.dsp.proofs.Tests.{lt, _and_}
 use Rattle.rework.specs.Differ.{Outside, SameBytes, SameBut}
-use Rattle.rework.specs.Rework.{picked, owns, endByte, pickedBytes, endOf}
+use Rattle.rework.specs.Rework.{picked, owns, endByte, pickedBytes, endParts}
 use Rattle.rework.proofs.Listed.{listed-is}
-use Rattle.rework.proofs.Bits.{itself, unless, byte-ext, bit-mixed, mixed-byte}
+use Rattle.rework.proofs.Bits.{itself, unless, bit-mixed, mixed-byte}
 use Rattle.rework.proofs.Tape.{Sim}
 use Rattle.rework.proofs.Kept.{Sized}
 
@@ -52,9 +53,9 @@ bytes-all a ys zs m b c s =
 
 -- x: what a rework leaves; y: the old end; z: the end of the second run
 pub end-parts : (a : ℕ) (x y z : Parts) → Sized y → Sized z → getD (y .registers) 0x7C 0 < 256 → getD (z .registers) 0x7C 0 < 256
-    → Sim a x z → SameBut a y z → endOf a x y ≡ z
+    → Sim a x z → SameBut a y z → endParts a x y ≡ z
 end-parts a x y z h k l m r s =
     let b = ap (λ (n : List ℕ). pickedBytes a n (y .registers)) (r .bytes) ∙ bytes-all a (y .registers) (z .registers) (k .registers) l m (s .bytes) in
     let v = picked-all noVoice a (x .voices) (y .voices) (z .voices) (k .voices) (r .voices) (s .voices) in
     let d = picked-all 0 a (x .delays) (y .delays) (z .delays) (k .delays) (r .delays) (s .delays) in
-    λ i. record { registers = b i; voices = v i; delays = d i; taps = s .taps i; left = s .left i; right = s .right i; glob = s .glob i }
+    λ i. record { registers = b i; voices = v i; delays = d i; taps = s .taps i; left = s .left i; right = s .right i; globals = s .globals i }

@@ -1,21 +1,23 @@
 -- "`new` is fit and every call keeps it so."
 use mathlib.Core.List.{List, []}
 use mathlib.Core.Path.{_≡_, sym, ap, subst, _∙_}
-use Prim.Native.Nat.{ℕ, zero, suc, _*_, _%_, _≤_, _<_}
+use Prim.Native.Nat.{ℕ, zero, suc, _*_, _%_, _<_}
 use native.Mathlib.Omega.{arith}
-use native.Mathlib.Decide.{ℕ-discrete}
-use lib.ListN.{getD, length}
+use native.Mathlib.Decide.{ℕ-discrete, decLt}
+use lib.ListN.{getD, length, List·getD-eq-default}
 use borrow.Author.Tests.{eqb-true}
 use Rattle.numbers.specs.Choice.{if_then_else_, _<?_, _=?_}
 use Rattle.numbers.proofs.Choice.{tested, chosen}
 use Rattle.numbers.specs.Bits.{bit}
-use Rattle.dsp.specs.Machine.{noVoice, newDsp, apart, together}
-use Rattle.dsp.specs.Fit.{fit, FitVoice}
+use Rattle.dsp.specs.Machine.{noVoice, apart, together}
+use Rattle.dsp.specs.PowerOn.{newDsp}
+use Rattle.dsp.specs.Fit.{fit, FitVoice, delayRule, Facts}
 use Rattle.dsp.specs.Registers.{Written, writeOf}
-use Rattle.dsp.specs.Tick.{everything, Bench, benchOf, benchTick, ticksOf, After, stepOf, Drove, driveOf}
+use Rattle.dsp.specs.Tick.{everything}
+use Rattle.dsp.specs.Ticks.{Bench, benchOf, benchTick, ticksOf, After, stepOf, Drove, driveOf}
 use Rattle.dsp.specs.declared.registers.Dsp.{Dsp}
 use Rattle.dsp.specs.declared.tick.Work.{Work}
-use Rattle.dsp.proofs.Fits.{fit-facts, facts-fit, new-fit, fit-kept-write}
+use Rattle.dsp.proofs.Fits.{fit-facts, facts-fit, new-fit, fit-kept-write, no-voice-fit}
 use Rattle.log.specs.Log.{readAt, Moves, decode}
 use Rattle.log.specs.declared.Record.the-variants.{Write, Ticks, Reading}
 use Rattle.log.specs.declared.Next.{Next}
@@ -23,10 +25,11 @@ use Rattle.log.specs.declared.Next.the-variants.{On, Off}
 use Rattle.log.proofs.Places.{moves, ByteValue, byte-value}
 use Rattle.sitting.specs.Run.{Outcome, runWith, runOf}
 use Rattle.sitting.specs.Parts.{Told, Parted, stopAt, recordAt, nextAt, ticksNow, sounding, logRefusal, partOf}
-use Rattle.rework.specs.Rework.{picked, endOf, setOf, only, Left, refusalOf, reworkOf, reworkNewOf}
+use Rattle.numbers.specs.Listed.{listed}
+use Rattle.rework.specs.Rework.{picked, endParts, setOf, only, Left, refusalOf, reworkOf, reworkNewOf}
 use Rattle.rework.specs.Demands.{IsRecord, Bytes}
 use Rattle.rework.specs.KeptFit.{IsFit, EveryCallKeepsFit}
-use Rattle.rework.proofs.Listed.{getD-listed}
+use Rattle.rework.proofs.Listed.{length-listed, getD-listed}
 use Rattle.rework.proofs.Tape.{beats}
 use Rattle.rework.proofs.Taped.{taped}
 use Rattle.rework.proofs.Beats.{small-beats}
@@ -97,20 +100,23 @@ part-fit d at left ram log pcm v b f =
 -- ---- a rework
 
 -- of two lists of eight, what both keep
-picked-keeps : {A : Type 0} (P : A → Type 0) (x : A) (a : ℕ) (new old : List A) (j : ℕ) → j < 8 → P (getD new j x) → P (getD old j x) → P (getD (picked x a new old) j x)
+picked-keeps : {A : Type 0} (P : A → Type 0) (x : A) (a : ℕ) (new old : List A) → P x → (j : ℕ) → P (getD new j x) → P (getD old j x) → P (getD (picked x a new old) j x)
 unfolding picked
-picked-keeps P x a new old j l p q =
-    subst P (sym (getD-listed (λ i. if bit a i then getD new i x else getD old i x) 8 j x l)) (chosen P (bit a j) p q)
+picked-keeps P x a new old z j p q =
+    elim (decLt j 8) [
+      | yes l ↦ subst P (sym (getD-listed (λ i. if bit a i then getD new i x else getD old i x) 8 j x l)) (chosen P (bit a j) p q)
+      | no l ↦ let f : ℕ → _ = (λ i. if bit a i then getD new i x else getD old i x) in let e = length-listed f 8 in subst P (sym (List·getD-eq-default (listed f 8) x {n = j} (omega (arith, e)))) z
+    ]
 
-end-fit : (a : ℕ) (new old : Dsp) → IsFit new → IsFit old → IsFit (together (endOf a (apart new) (apart old)))
+end-fit : (a : ℕ) (new old : Dsp) → IsFit new → IsFit old → IsFit (together (endParts a (apart new) (apart old)))
 end-fit a new old f g =
     let p = fit-facts new f in
     let q = fit-facts old g in
     facts-fit _
     (record {
-      glob = q .glob;
-      voices = λ j l. picked-keeps FitVoice noVoice a (new .voices) (old .voices) j l (p .voices j l) (q .voices j l);
-      delays = λ j l. picked-keeps (λ (n : ℕ). n ≤ 5) 0 a (new .«kon_delay») (old .«kon_delay») j l (p .delays j l) (q .delays j l);
+      globals = q .globals;
+      voices = λ j. picked-keeps FitVoice noVoice a (new .voices) (old .voices) no-voice-fit j (p .voices j) (q .voices j);
+      delays = λ j. picked-keeps (λ (n : ℕ). Facts (delayRule n)) 0 a (new .«kon_delay») (old .«kon_delay») (omega arith, tt) j (p .delays j) (q .delays j);
     })
 
 rework-fit : (s : ℕ) (start end : Dsp) (ram log₁ log₂ pcm sheet readings : List ℕ) → IsRecord start → Bytes log₂ → IsFit start → IsFit end

@@ -11,23 +11,27 @@ use lib.ListN.{getD, drop, replicate}
 use lib.Signed.{mag}
 use Rattle.numbers.specs.Choice.{_<?_}
 use Rattle.numbers.specs.Bits.{withBit}
-use Rattle.numbers.specs.Listed.{listed}
+use Rattle.numbers.specs.Listed.{listed, turns, folded, all}
 use Rattle.sound.specs.Clock.{periods, periodOf}
 use Rattle.sound.specs.Noise.{shifted}
-use Rattle.dsp.specs.Machine.{noVoice, newDsp, apart}
-use Rattle.dsp.specs.Sheet.{laneAt, pairBytes, laneBytes}
-use Rattle.dsp.specs.Brr.{byteAt, wordAt, decodeBlock}
-use Rattle.dsp.specs.Clock.{tickDue}
-use Rattle.sound.specs.Sound.{firSum, firOf}
-use Rattle.dsp.specs.Echo.{echoRead, historyNow, echoNow, echoWritten, lengthNow, pointerNext, echoMoved, echoTick, echoFrom, echoLane}
-use Rattle.dsp.specs.Envelope.{attackTick, gainTick, phaseTick, envelopeTick}
-use Rattle.dsp.specs.Fit.{fitVoices, fit}
-use Rattle.dsp.specs.Lane.{keyedOff, keyedOn, waited, noised, sourceOf, polledOf, waitedOf, cellAfter, cellOf, shownCell, putBytes, added, ownCell, turned}
-use Rattle.dsp.specs.Mix.{scaledOutput, withVoice, dryTurn, dryOf, masterOf, renderOf}
+use Rattle.dsp.specs.Clock.{fires, countedOn}
 use Rattle.dsp.specs.Noise.{noiseTick}
-use Rattle.dsp.specs.Registers.{silenceVoice, silenceAll, turns, writeParts, writeAt, writeOf}
-use Rattle.dsp.specs.Tick.{turn, voicesTick, globTick, sharedFrom, tickOf, benchTick, ticksOf, stepOf}
-use Rattle.dsp.specs.Voice.{pitchOf, positionOf, samplesTaken, filled, placed, decodedAt, nextAddress, nextBlock, resolved, pushed, takeOne, consume, advanced, interpolated, sounded, voiceStep}
+use Rattle.dsp.specs.Machine.{noVoice, apart}
+use Rattle.dsp.specs.PowerOn.{newDsp}
+use Rattle.dsp.specs.Fit.{fit}
+use Rattle.dsp.specs.Envelope.{attackTick, gainTick, phaseTick, envelopeTick}
+use Rattle.dsp.specs.Keys.{keyedOff, keyedOn}
+use Rattle.dsp.specs.Ram.{byteAt, wordAt, storedFrom}
+use Rattle.dsp.specs.Brr.{decodeBlock}
+use Rattle.dsp.specs.Registers.{writeParts, writeAt, writeOf}
+use Rattle.dsp.specs.Voice.{pitchOf, positionOf, samplesTaken, placed, decodedAt, nextAddress, nextBlock, resolved, pushed, takeOne, consume, advanced, interpolated, sounded, voiceStep}
+use Rattle.dsp.specs.Mix.{scaledOutput, withVoice, dryOf, masterOf, renderOf}
+use Rattle.dsp.specs.Sheet.{laneAt, pairBytes, laneBytes}
+use Rattle.dsp.specs.Echo.{echoRead, historyNow, echoNow, echoWritten, lengthNow, pointerNext, echoMoved, echoTick, echoFrom, echoLane}
+use Rattle.dsp.specs.Lane.{waited, noised, sourceOf, polledOf, waitedOf, cellAfter, cellOf, shownCell, putBytes, added, ownCell, turned}
+use Rattle.dsp.specs.Tick.{turn, voicesTick, globalsTick, tickOf}
+use Rattle.dsp.specs.Ticks.{benchTick, ticksOf, stepOf}
+use Rattle.sound.specs.Sound.{firSum, firOf}
 use Rattle.dsp.specs.declared.voice.Voice.{Voice}
 use Rattle.dsp.specs.declared.registers.Dsp.{Dsp}
 use Rattle.dsp.proofs.Tests.{lt, _and_}
@@ -100,7 +104,7 @@ differ-by : {A : Type 0} (f : A → ℕ) {x y : A} (m n : ℕ) → f x ≡ m →
 differ-by f m n p q d = λ e. d (sym p ∙ ap f e ∙ q)
 
 computed : Seen × NotThrough
-unfolding firstOf silenceVoice silenceAll firSum firOf echoRead historyNow echoNow withVoice dryTurn dryOf masterOf renderOf stepOf unclamped periods periodOf shifted byteAt wordAt decodeBlock tickDue echoWritten lengthNow pointerNext echoMoved echoTick echoFrom echoLane attackTick gainTick phaseTick envelopeTick fitVoices fit keyedOff keyedOn waited noised sourceOf polledOf waitedOf cellAfter cellOf shownCell withBit putBytes added ownCell turned scaledOutput noiseTick turns writeParts writeAt writeOf pairBytes laneBytes turn voicesTick globTick sharedFrom tickOf benchTick ticksOf pitchOf positionOf samplesTaken filled placed decodedAt nextAddress nextBlock resolved pushed takeOne consume advanced interpolated sounded voiceStep writeRecord ticksRecord readingRecord byMark readAt decodeFrom decode measureOf play playAll runMeasured runWith without sameRecord sameRecords alike quiet joinedBy joinedOver members voicesIn listed picked refusalOf reworkOf
+unfolding firstOf firSum firOf echoRead historyNow echoNow withVoice folded dryOf masterOf renderOf stepOf unclamped periods periodOf shifted byteAt wordAt decodeBlock fires countedOn storedFrom echoWritten lengthNow pointerNext echoMoved echoTick echoFrom echoLane attackTick gainTick phaseTick envelopeTick all fit keyedOff keyedOn waited noised sourceOf polledOf waitedOf cellAfter cellOf shownCell withBit putBytes added ownCell turned scaledOutput noiseTick turns writeParts writeAt writeOf pairBytes laneBytes turn voicesTick globalsTick tickOf benchTick ticksOf pitchOf positionOf samplesTaken placed decodedAt nextAddress nextBlock resolved pushed takeOne consume advanced interpolated sounded voiceStep writeRecord ticksRecord readingRecord byMark readAt decodeFrom decode measureOf play playAll runMeasured runWith without sameRecord sameRecords alike quiet joinedBy joinedOver members voicesIn listed picked refusalOf reworkOf
 computed = (
   record {
     members = refl;

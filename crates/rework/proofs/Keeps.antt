@@ -11,22 +11,23 @@ use Rattle.numbers.specs.Choice.{if_then_else_, _=?_}
 use Rattle.numbers.specs.Signed.{highZ}
 use Rattle.numbers.proofs.Choice.{chosen}
 use Rattle.numbers.specs.Bits.{bit, withBit}
+use Rattle.numbers.proofs.Bits.{with-byte}
 use Rattle.sound.specs.Sound.{to16}
-use Rattle.dsp.specs.Machine.{noVoice, newVoice, newDsp, Parts, apart, together}
+use Rattle.dsp.specs.Machine.{noVoice, Parts, apart, together}
+use Rattle.dsp.specs.PowerOn.{newVoice, newDsp}
 use Rattle.dsp.specs.Fit.{fit}
 use Rattle.dsp.specs.Registers.{at, resets, writeParts}
 use Rattle.dsp.specs.Sheet.{laneAt}
-use Rattle.dsp.specs.Lane.{Cell, putBytes, ownCell, shownCell, turned}
-use Rattle.dsp.specs.Tick.{Round, turn, voicesTick, sharedOf, startOf, tickOf, Bench, benchTick}
-use Rattle.dsp.specs.declared.lane.Shared.{Shared}
+use Rattle.dsp.specs.Lane.{Cell, putBytes, ownCell, shownCell, turned, Shared}
+use Rattle.dsp.specs.Tick.{Round, turn, voicesTick, sharedOf, startOf, tickOf}
+use Rattle.dsp.specs.Ticks.{Bench, benchTick}
 use Rattle.dsp.specs.declared.voice.Voice.{Voice}
 use Rattle.dsp.specs.declared.registers.Dsp.{Dsp}
 use Rattle.dsp.specs.declared.tick.Work.{Work}
-use Rattle.dsp.proofs.Turns.{turns-keep, set-keeps}
+use Rattle.numbers.proofs.Turns.{turns-keep, set-keeps}
 use Rattle.dsp.proofs.Fits.{fit-facts, facts-fit}
 use Rattle.dsp.proofs.Ticks.{fit-kept-bench}
 use Rattle.rework.specs.Differ.{Value}
-use Rattle.rework.proofs.Bits.{with-byte}
 use Rattle.rework.proofs.Tape.{Beat, put, tick, ask, Small, tape}
 use Rattle.rework.proofs.Right.{Good, good-start, good-tick, good-write}
 use Rattle.rework.proofs.Kept.{Sized}
@@ -53,7 +54,7 @@ endx-turn mask old c ram j r l h =
     let b = r .bytes in
     let n : 0x7C ≢ j * 16 + 8 = (λ e. absurd (omega (arith, l, e))) in
     let m : 0x7C ≢ j * 16 + 9 = (λ e. absurd (omega (arith, l, e))) in
-    let x : Cell = if bit mask j then ownCell c ram j (r .acc .prev) (getD (r .voices) j noVoice) (getD (r .delays) j 0) b else shownCell (laneAt j old) (getD (r .voices) j noVoice) (getD (r .delays) j 0) in
+    let x : Cell = if bit mask j then ownCell c ram j (r .sums .prev) (getD (r .voices) j noVoice) (getD (r .delays) j 0) b else shownCell (laneAt j old) (getD (r .voices) j noVoice) (getD (r .delays) j 0) in
     let y = set b (j * 16 + 8) (x .envx) in
     let z = set y (j * 16 + 9) (highZ (x .out)) in
     let e : getD z 0x7C 0 ≡ getD b 0x7C 0 = getD-set-other y (j * 16 + 9) 0x7C (highZ (x .out)) 0 m ∙ getD-set-other b (j * 16 + 8) 0x7C (x .envx) 0 n in
@@ -63,7 +64,7 @@ endx-turn mask old c ram j r l h =
 endx-tick : (w : Work) (old : List ℕ) (p : Parts) (ram : List ℕ) → getD (p .registers) 0x7C 0 < 256 → getD (tickOf w old p ram .parts .registers) 0x7C 0 < 256
 unfolding tickOf voicesTick
 endx-tick w old p ram h =
-    let c = sharedOf (p .glob) (p .registers) in
+    let c = sharedOf (p .globals) (p .registers) in
     turns-keep (λ (r : Round). getD (r .bytes) 0x7C 0 < 256) (turn (w .voices) old c ram) 8 (endx-turn (w .voices) old c ram) 8 (startOf p) (omega arith) h
 
 endx-write : (i x : ℕ) (p : Parts) → x < 256 → getD (p .registers) 0x7C 0 < 256 → getD (writeParts i x p .registers) 0x7C 0 < 256
@@ -81,7 +82,7 @@ whole-tick w old p ram h =
     record {
       good = good-tick w old p ram (h .room) (h .good);
       endx = endx-tick w old p ram (h .endx);
-      room = fit-kept-bench w b (record { ram = h .room; round = h .good .round .fit; glob = h .good .glob }) .ram;
+      room = fit-kept-bench w b (record { ram = h .room; round = h .good .round .fit; globals = h .good .globals }) .ram;
     }
 
 pub whole-write : (i x : ℕ) (p : Parts) (ram : List ℕ) → i < 128 → x < 256 → Whole p ram → Whole (writeParts i x p) ram
@@ -95,7 +96,7 @@ pub whole-start : (d : Dsp) (ram : List ℕ) → Value (apart d) → fit d ≡ t
 whole-start d ram v f r = record { good = good-start d v (fit-facts d f); endx = v .bytes 0x7C; room = r }
 
 pub whole-fit : {p : Parts} {ram : List ℕ} → Whole p ram → fit (together p) ≡ true
-whole-fit {p} h = facts-fit (together p) (record { glob = h .good .glob; voices = h .good .round .fit .voices; delays = h .good .round .fit .delays })
+whole-fit {p} h = facts-fit (together p) (record { globals = h .good .globals; voices = h .good .round .fit .voices; delays = h .good .round .fit .delays })
 
 pub whole-sized : {p : Parts} {ram : List ℕ} → Whole p ram → Sized p
 whole-sized h = record { registers = h .good .round .fit .bytes; voices = h .good .round .fit .count; delays = h .good .round .fit .waits }

@@ -1,6 +1,6 @@
 -- A run, and the run of its log without the named voices' own writes, agree outside the set as it runs.
 use mathlib.Core.Bool.{Bool, true, false, true≢false}
-use mathlib.Core.List.{List, [], _∷_, _++_}
+use mathlib.Core.List.{List, [], _∷_, _++_, map}
 use mathlib.Core.Logic.{_≢_}
 use mathlib.Core.Path.{_≡_, refl, sym, ap, subst, _∙_}
 use Prim.Native.Nat.{ℕ, zero, suc, _+_, _*_, _/_, _%_, _≤_, _<_}
@@ -9,35 +9,36 @@ use native.Mathlib.Decide.{ℕ-discrete}
 use native.Mathlib.Numerals.{add-one}
 use borrow.Author.Tests.{ne-eqb, lt-ltb}
 use lib.IntN.{ℤ}
-use lib.ListN.{getD, set, drop, length, length-set, length-append}
+use lib.ListN.{getD, set, drop, length, length-set, length-append, length-map}
 use lib.Seq.{getD-set-same, getD-set-other, set-getD}
 use Rattle.numbers.specs.Choice.{if_then_else_, _<?_, _=?_}
 use Rattle.numbers.specs.Signed.{highZ}
-use Rattle.numbers.proofs.Choice.{tested, chosen}
+use Rattle.numbers.proofs.Choice.{tested, chosen, chosen-both}
 use Rattle.numbers.specs.Bits.{bit, withBit}
+use Rattle.numbers.proofs.Bits.{bit-here, bit-there}
 use Rattle.sound.specs.Sound.{even}
-use Rattle.dsp.specs.Machine.{noVoice, Parts}
-use Rattle.dsp.specs.Registers.{turns, resets, writeVoice, silenced, silenceVoice, silenceAll, globWrite, tapsAfter, writeParts}
-use Rattle.dsp.specs.Noise.{noiseTick}
+use Rattle.numbers.specs.Listed.{turns}
+use Rattle.dsp.specs.Noise.{noiseTick, noiseSample}
+use Rattle.dsp.specs.Machine.{noVoice, Parts, Globals}
+use Rattle.dsp.specs.Keys.{silenced, polledDelay}
+use Rattle.dsp.specs.Registers.{resets, writeVoice, globalsAfter, tapsAfter, writeParts}
+use Rattle.dsp.specs.Voice.{plain, modulatedBy}
+use Rattle.dsp.specs.Mix.{Stereo}
 use Rattle.dsp.specs.Sheet.{pairBytes, laneBytes, laneAt}
-use Rattle.dsp.specs.Lane.{settingsOf, delayOf, waited, sourceOf, Cell, polledOf, waitedOf, cellAfter, cellOf, putBytes, added, landed, ownCell, turned}
 use Rattle.dsp.specs.Echo.{Echo, EchoLane, echoWritten, echoTick, echoLane}
-use Rattle.dsp.specs.Tick.{Round, landing, turn, voicesTick, globTick, sharedFrom, sharedOf, everything, startOf, Ticked, tickOf}
+use Rattle.dsp.specs.Lane.{waited, sourceOf, Cell, polledOf, waitedOf, cellAfter, cellOf, putBytes, added, landed, ownCell, turned, Shared}
+use Rattle.dsp.specs.Tick.{Round, landing, turn, voicesTick, globalsTick, sharedOf, everything, startOf, Ticked, tickOf, polls, konNow}
 use Rattle.dsp.specs.declared.voice.Voice.{Voice}
-use Rattle.dsp.specs.declared.play.Source.the-variants.{Unmodulated, From}
-use Rattle.dsp.specs.declared.lane.Shared.{Shared}
-use Rattle.dsp.specs.declared.mix.Stereo.{Stereo}
-use Rattle.dsp.specs.declared.registers.Glob.{Glob}
 use Rattle.dsp.specs.declared.tick.Work.{Work}
 use Rattle.dsp.proofs.Whole.{full}
-use Rattle.dsp.proofs.Turns.{turns-keep}
+use Rattle.numbers.proofs.Turns.{turns-keep}
 use Rattle.dsp.proofs.Tests.{lt, _and_}
 use Rattle.dsp.proofs.Batches.{lane-part}
-use Rattle.rework.specs.declared.modes.Modes.{Modes}
+use Rattle.numbers.proofs.Lists.{map-both}
 use Rattle.rework.specs.Alike.{named}
-use Rattle.rework.specs.Members.{modesAfter, joinedBy}
+use Rattle.rework.specs.Members.{Fields, modesAfter, joinedBy}
 use Rattle.rework.specs.Differ.{Outside, SameBytes, SameBut}
-use Rattle.rework.proofs.Bits.{itself, unless, bit-here, bit-there, joined-more, joined-closed}
+use Rattle.rework.proofs.Bits.{itself, unless, joined-more, joined-closed}
 use Rattle.rework.proofs.Lanes.{lane-last}
 use Rattle.rework.proofs.Tape.{Beat, put, tick, ask, Small, keep, modesIn, Quiet, joins, behindTick, tape, modes-tick, SameLanes, Rows, none, more, Kept}
 
@@ -52,19 +53,19 @@ abbrev Eight : List Voice → Type 0
 Eight vs = length vs ≡ 8
 
 pub sized-write : (i x : ℕ) (p : Parts) → Sized p → Sized (writeParts i x p)
-unfolding writeParts silenceAll silenceVoice
+unfolding writeParts
 sized-write i x p h =
     record {
       registers = chosen (λ (l : List ℕ). length l ≡ 128) (resets i x) (simp length-set (h .registers)) (simp length-set (h .registers));
       voices =
           chosen Eight (i % 16 <? 8) (length-set (p .voices) (i / 16) _ ∙ h .voices)
-          (chosen Eight (resets i x) (turns-keep Eight silenceVoice 8 (λ n vs l e. length-set vs n _ ∙ e) 8 (p .voices) (omega arith) (h .voices)) (h .voices));
+          (chosen Eight (resets i x) (length-map (p .voices) silenced ∙ h .voices) (h .voices));
       delays = h .delays;
     }
 
 -- the parts between two turns of a tick
 abbrev amid : Parts → Round → Parts
-amid p r = record { registers = r .bytes; voices = r .voices; delays = r .delays; taps = p .taps; left = p .left; right = p .right; glob = p .glob }
+amid p r = record { registers = r .bytes; voices = r .voices; delays = r .delays; taps = p .taps; left = p .left; right = p .right; globals = p .globals }
 
 sized-turn : (mask : ℕ) (old : List ℕ) (c : Shared) (ram : List ℕ) (p : Parts) (j : ℕ) (r : Round) → Sized (amid p r) → Sized (amid p (turn mask old c ram j r))
 unfolding turn turned putBytes
@@ -74,7 +75,7 @@ sized-turn mask old c ram p j r h =
 pub sized-tick : (w : Work) (old : List ℕ) (p : Parts) (ram : List ℕ) → Sized p → Sized (tickOf w old p ram .parts)
 unfolding tickOf voicesTick
 sized-tick w old p ram h =
-    let c = sharedOf (p .glob) (p .registers) in
+    let c = sharedOf (p .globals) (p .registers) in
     let s = turns-keep (λ (r : Round). Sized (amid p r)) (turn (w .voices) old c ram) 8 (λ j r l k. sized-turn (w .voices) old c ram p j r k) 8 (startOf p) (omega arith) h in
     record { registers = s .registers; voices = s .voices; delays = s .delays }
 
@@ -86,11 +87,6 @@ turns-both : {A B : Type 0} (R : ℕ → A → B → Type 0) (f : ℕ → A → 
 unfolding turns
 turns-both R f g k h zero a b l p = p
 turns-both R f g k h (suc n) a b l p = h n (turns f n a) (turns g n b) (omega arith) (turns-both R f g k h n a b (omega arith) p)
-
--- one test on both sides
-chosen-both : {A : Type 0} (R : A → A → Type 0) (b : Bool) {x y v w : A} → R x v → R y w → R (if b then x else y) (if b then v else w)
-chosen-both R true p q = p
-chosen-both R false p q = q
 
 -- stores at n into two lists, seen at j
 stored : {A B : Type 0} (f : A → B) (d : A) (xs ys : List A) (n j : ℕ) (v w : A) → n < length xs → n < length ys → (j ≡ n → f v ≡ f w) → f (getD xs j d) ≡ f (getD ys j d)
@@ -108,13 +104,8 @@ SameAt a d xs ys = (j : ℕ) → j < 8 → Outside a j → getD xs j d ≡ getD 
 same-set : {A : Type 0} (a : ℕ) (d : A) (xs ys : List A) (n : ℕ) (v w : A) → length xs ≡ 8 → length ys ≡ 8 → n < 8 → (Outside a n → v ≡ w) → SameAt a d xs ys → SameAt a d (set xs n v) (set ys n w)
 same-set a d xs ys n v w l m b h s = λ j k o. stored (λ z. z) d xs ys n j v w (omega arith) (omega arith) (λ e. h (rw e at o)) (s j k o)
 
-silence-same : (a : ℕ) (vs ws : List Voice) → length vs ≡ 8 → length ws ≡ 8 → SameAt a noVoice vs ws → SameAt a noVoice (silenceAll vs) (silenceAll ws)
-unfolding silenceAll silenceVoice
-silence-same a vs ws l m s =
-    turns-both (λ n us ts. (length us ≡ 8) × (length ts ≡ 8) × SameAt a noVoice us ts) silenceVoice silenceVoice 8
-    (λ n us ts b h. (length-set us n _ ∙ h .0, length-set ts n _ ∙ h .1, same-set a noVoice us ts n _ _ (h .0) (h .1) b (λ o. ap silenced (h .2 n b o)) (h .2)))
-    8 vs ws (omega arith) (l, m, s)
-    .2
+silence-same : (a : ℕ) (vs ws : List Voice) → length vs ≡ 8 → length ws ≡ 8 → SameAt a noVoice vs ws → SameAt a noVoice (map silenced vs) (map silenced ws)
+silence-same a vs ws l m s j b o = map-both _≡_ silenced noVoice (λ v w e. ap silenced e) vs ws (omega arith) j (s j b o)
 
 -- bytes that may be stored at m on the two sides
 record Storable (a m v w : ℕ) : Type 0 where
@@ -152,14 +143,14 @@ both-write i x a p q l h k s =
       taps = ap (tapsAfter i x) (s .taps);
       left = s .left;
       right = s .right;
-      glob = ap (globWrite i x) (s .glob);
+      globals = ap (globalsAfter i x) (s .globals);
     }
 
 -- a register of a voice is none of the globals
 not-global : (i k : ℕ) → i % 16 < 8 → 8 ≤ k % 16 → (i =? k) ≡ false
 not-global i k l m = ne-eqb i k (λ e. absurd (omega arith))
 
-glob-same : (i x : ℕ) (g : Glob) → i % 16 < 8 → globWrite i x g ≡ g
+glob-same : (i x : ℕ) (g : Globals) → i % 16 < 8 → globalsAfter i x g ≡ g
 glob-same i x g l =
     let o : (k : ℕ) → 8 ≤ k % 16 → (i =? k) ≡ false = (λ k m. not-global i k l m) in
     rw (
@@ -193,7 +184,7 @@ own-write i x a p q l m t h k s =
       taps = rw (ne-eqb (i % 16) 15 (omega arith)) (s .taps);
       left = s .left;
       right = s .right;
-      glob = glob-same i x (p .glob) m ∙ s .glob;
+      globals = glob-same i x (p .globals) m ∙ s .globals;
     }
 
 -- ---- a greater set
@@ -219,7 +210,7 @@ same-mono a b p q h s =
       taps = s .taps;
       left = s .left;
       right = s .right;
-      glob = s .glob;
+      globals = s .globals;
     }
 
 pub lanes-mono : (a b : ℕ) (x y : List ℕ) → Within a b → SameLanes a x y → SameLanes b x y
@@ -229,7 +220,7 @@ pub rows-mono : (a b : ℕ) {xs ys : List (List ℕ)} → Within a b → Rows a 
 rows-mono a b h none = none
 rows-mono a b h (more {x = x} {y = y} s r) = more (lanes-mono a b x y h s) (rows-mono a b h r)
 
-pub joins-more : (bs : List Beat) (m : Modes) (a : ℕ) → Within a (joins bs m a)
+pub joins-more : (bs : List Beat) (m : Fields) (a : ℕ) → Within a (joins bs m a)
 unfolding joins
 joins-more [] m a j l h = h
 joins-more (put i x ∷ bs) m a j l h = joins-more bs (modesAfter i x m) a j l h
@@ -243,8 +234,8 @@ source-same : (pmon j : ℕ) (x y : ℤ) → (bit pmon j ≡ true → x ≡ y) �
 unfolding sourceOf
 source-same pmon j x y h = go (bit pmon j) refl
   where
-    go : (t : Bool) → bit pmon j ≡ t → (if t then From x else Unmodulated) ≡ (if t then From y else Unmodulated)
-    go true e = ap From (h e)
+    go : (t : Bool) → bit pmon j ≡ t → (if t then modulatedBy x else plain) ≡ (if t then modulatedBy y else plain)
+    go true e = ap modulatedBy (h e)
     go false e = refl
 
 -- a cell is what its source, its voice, its delay, two bytes of its own and its ENDX bit make it
@@ -254,9 +245,7 @@ cell-same : (c : Shared) (ram : List ℕ) (j : ℕ) (x y : ℤ) (v w : Voice) (d
 unfolding ownCell cellOf waitedOf
 cell-same c ram j x y v w d e b k es ev ed e4 e8 ex =
     λ i.
-    cellAfter c j (ev i)
-    (waited ram (c .dir) (e4 i) (settingsOf (ev i)) (ev i .pitch) (es i) (e8 i) (delayOf (bit (c .kon) j) (ed i))
-    (record { play = polledOf c j (ev i) (ex i); samples = ev i .brr .«sample_buffer» }))
+    cellAfter c j (waited ram (c .dir) (e4 i) (es i) (e8 i) (polledDelay (bit (c .kon) j) (ed i)) (polledOf c j (ev i) (ex i)))
 
 -- a lane put behind n others
 lanes-more : (O : ℕ → Type 0) (n : ℕ) (x y u v : List ℕ) → length x ≡ n * 4 → length y ≡ n * 4 → length u ≡ 4 → length v ≡ 4 → (O n → u ≡ v)
@@ -290,8 +279,8 @@ put-same a j x y b k l lb lk e s =
     let at : (i : ℕ) → i < 8 → Outside a i → bit (withBit v j (x .endx)) i ≡ bit (withBit w j (y .endx)) i =
     (λ i m o.
     elim (ℕ-discrete i j) [
-      | yes p ↦ rw p (bit-here v j (x .endx) l ∙ ap (λ (z : Cell). z .endx) (e (rw p at o)) ∙ sym (bit-here w j (y .endx) l))
-      | no p ↦ bit-there v j i (x .endx) l m p ∙ s₂ .endx i m o ∙ sym (bit-there w j i (y .endx) l m p)
+      | yes p ↦ rw p (bit-here v j (x .endx) ∙ ap (λ (z : Cell). z .endx) (e (rw p at o)) ∙ sym (bit-here w j (y .endx)))
+      | no p ↦ bit-there v j i (x .endx) p ∙ s₂ .endx i m o ∙ sym (bit-there w j i (y .endx) p)
     ]) in
     bytes-set a b₂ k₂ 0x7C (withBit v j (x .endx)) (withBit w j (y .endx)) (simp length-set lb) (simp length-set lk) (omega arith)
     (record { own = λ m. absurd (omega arith); endx = λ f. at; others = λ m f. absurd (f refl) }) s₂
@@ -304,7 +293,7 @@ record Beside (a : ℕ) (c : Shared) (p q : Parts) (n : ℕ) (r s : Round) : Typ
   row₁ : length (r .row) ≡ n * 4
   row₂ : length (s .row) ≡ n * 4
   lanes : (j : ℕ) → j < n → Outside a j → laneAt j (r .row) ≡ laneAt j (s .row)
-  prev : n < 8 → Outside a n → bit (c .pmon) n ≡ true → r .acc .prev ≡ s .acc .prev
+  prev : n < 8 → Outside a n → bit (c .pmon) n ≡ true → r .sums .prev ≡ s .sums .prev
 
 -- a set that no voice joins under a PMON, so that a voice outside that is modulated is modulated from outside
 abbrev Closed : ℕ → ℕ → Type 0
@@ -315,7 +304,7 @@ before a pmon n h l o e = unless (bit a n) (λ f. true≢false (sym (h n l f (rw
 
 -- the round after voice n's turn, that came to x
 abbrev landingOwn : Shared → ℕ → Round → Cell → Round
-landingOwn c n r x = landing n r (landed true c n (r .acc) (r .bytes) [] x)
+landingOwn c n r x = landing n r (landed true c n (r .sums) (r .bytes) [] x)
 
 beside-cells : (a : ℕ) (c : Shared) (p q : Parts) (n : ℕ) (r s : Round) (x y : Cell) → n < 8 → Closed a (c .pmon) → (Outside a n → x ≡ y)
     → Beside a c p q n r s → Sized (amid p (landingOwn c n r x)) → Sized (amid q (landingOwn c n s y)) → Beside a c p q (suc n) (landingOwn c n r x) (landingOwn c n s y)
@@ -333,7 +322,7 @@ beside-cells a c p q n r s x y l h e b lx ly =
             taps = i .taps;
             left = i .left;
             right = i .right;
-            glob = i .glob;
+            globals = i .globals;
           };
       row₁ = length-append (r .row) (laneBytes (x .out) (x .envx) (x .endx)) ∙ omega (arith, b .row₁);
       row₂ = length-append (s .row) (laneBytes (y .out) (y .envx) (y .endx)) ∙ omega (arith, b .row₂);
@@ -345,7 +334,7 @@ beside-cells a c p q n r s x y l h e b lx ly =
 
 -- the cell of voice n in a round
 abbrev cellIn : Shared → List ℕ → ℕ → Round → Cell
-cellIn c ram n r = ownCell c ram n (r .acc .prev) (getD (r .voices) n noVoice) (getD (r .delays) n 0) (r .bytes)
+cellIn c ram n r = ownCell c ram n (r .sums .prev) (getD (r .voices) n noVoice) (getD (r .delays) n 0) (r .bytes)
 
 turn-own : (old : List ℕ) (c : Shared) (ram : List ℕ) (n : ℕ) (r : Round) → n < 8 → turn 0xFF old c ram n r ≡ landingOwn c n r (cellIn c ram n r)
 unfolding turn turned
@@ -359,8 +348,8 @@ beside-turn a c ram o₁ o₂ p q n r s l h b =
     let i = b .same in
     let g : Outside a n → cellIn c ram n r ≡ cellIn c ram n s =
     (λ o.
-    cell-same c ram n (r .acc .prev) (s .acc .prev) (getD (r .voices) n noVoice) (getD (s .voices) n noVoice) (getD (r .delays) n 0) (getD (s .delays) n 0) (r .bytes) (s .bytes)
-    (source-same (c .pmon) n (r .acc .prev) (s .acc .prev) (b .prev l o)) (i .voices n l o) (i .delays n l o) (i .bytes .own n 4 l (omega arith) o) (i .bytes .own n 8 l (omega arith) o) (i .bytes .endx n l o)) in
+    cell-same c ram n (r .sums .prev) (s .sums .prev) (getD (r .voices) n noVoice) (getD (s .voices) n noVoice) (getD (r .delays) n 0) (getD (s .delays) n 0) (r .bytes) (s .bytes)
+    (source-same (c .pmon) n (r .sums .prev) (s .sums .prev) (b .prev l o)) (i .voices n l o) (i .delays n l o) (i .bytes .own n 4 l (omega arith) o) (i .bytes .own n 8 l (omega arith) o) (i .bytes .endx n l o)) in
     let z = beside-cells a c p q n r s (cellIn c ram n r) (cellIn c ram n s) l h g b
     (subst (λ (t : Round). Sized (amid p t)) e (sized-turn 0xFF o₁ c ram p n r (b .sized₁))) (subst (λ (t : Round). Sized (amid q t)) f (sized-turn 0xFF o₂ c ram q n s (b .sized₂))) in
     subst (Beside a c p q (suc n) (turn 0xFF o₁ c ram n r)) (sym f) (subst (λ (t : Round). Beside a c p q (suc n) t (landingOwn c n s (cellIn c ram n s))) (sym e) z)
@@ -368,47 +357,49 @@ beside-turn a c ram o₁ o₂ p q n r s l h b =
 -- ---- a tick
 
 -- with FLG bit 5 set RAM is as it was
-ram-kept : (w : Work) (old : List ℕ) (p : Parts) (ram : List ℕ) → bit (p .glob .flg) 5 ≡ true → tickOf w old p ram .ram ≡ ram
-unfolding tickOf echoLane echoTick echoWritten globTick
+ram-kept : (w : Work) (old : List ℕ) (p : Parts) (ram : List ℕ) → bit (p .globals .flg) 5 ≡ true → tickOf w old p ram .ram ≡ ram
+unfolding tickOf echoLane echoTick echoWritten globalsTick
 ram-kept w old p ram e = chosen (λ (x : EchoLane). x .echo .ram ≡ ram) (w .echo) (rw e) refl
 
 -- what all voices see
-shared-same : (a : ℕ) (p q : Parts) → SameBut a p q → sharedOf (p .glob) (p .registers) ≡ sharedOf (q .glob) (q .registers)
+shared-same : (a : ℕ) (p q : Parts) → SameBut a p q → sharedOf (p .globals) (p .registers) ≡ sharedOf (q .globals) (q .registers)
 shared-same a p q s =
     let koff = s .bytes .others 0x5C (omega arith) (omega arith) (omega arith) in
     let dir = s .bytes .others 0x5D (omega arith) (omega arith) (omega arith) in
-    λ i. sharedFrom (s .glob i) (noiseTick (s .glob i .flg) (s .glob i .noise)) (koff i) (dir i)
+    λ i.
+    let g = s .globals i in
+    record { koff = if polls g then koff i else 0; kon = konNow g; «dir_base» = g .«dir_base»; dir = dir i; non = g .non; pmon = g .pmon; eon = g .eon; noise = noiseSample (noiseTick (g .flg) (g .noise)) }
 
 -- the echo's record does not see what the voices put into it
 abbrev echoIn : Parts → List ℕ → Stereo → Echo
-echoIn p ram input = echoTick (globTick (p .glob)) (p .taps) (p .left) (p .right) ram input
+echoIn p ram input = echoTick (globalsTick (p .globals)) (p .taps) (p .left) (p .right) ram input
 
 echo-same : (a : ℕ) (p q : Parts) (ram : List ℕ) (x y : Stereo) → SameBut a p q
-    → (echoIn p ram x .glob ≡ echoIn q ram y .glob) × (echoIn p ram x .left ≡ echoIn q ram y .left) × (echoIn p ram x .right ≡ echoIn q ram y .right)
+    → (echoIn p ram x .globals ≡ echoIn q ram y .globals) × (echoIn p ram x .left ≡ echoIn q ram y .left) × (echoIn p ram x .right ≡ echoIn q ram y .right)
 unfolding echoTick
 echo-same a p q ram x y s =
-    let e : echoIn p ram x ≡ echoIn q ram x = (λ i. echoTick (globTick (s .glob i)) (s .taps i) (s .left i) (s .right i) ram x) in
-    (ap (λ (z : Echo). z .glob) e, ap (λ (z : Echo). z .left) e, ap (λ (z : Echo). z .right) e)
+    let e : echoIn p ram x ≡ echoIn q ram x = (λ i. echoTick (globalsTick (s .globals i)) (s .taps i) (s .left i) (s .right i) ram x) in
+    (ap (λ (z : Echo). z .globals) e, ap (λ (z : Echo). z .left) e, ap (λ (z : Echo). z .right) e)
 
 -- two ticks that agree outside the set
 record Alongside (a : ℕ) (t u : Ticked) : Type 0 where
   parts : SameBut a (t .parts) (u .parts)
   lanes : SameLanes a (t .row) (u .row)
 
-tick-same : (a : ℕ) (o₁ o₂ : List ℕ) (p q : Parts) (ram : List ℕ) → Sized p → Sized q → Closed a (p .glob .pmon) → SameBut a p q
+tick-same : (a : ℕ) (o₁ o₂ : List ℕ) (p q : Parts) (ram : List ℕ) → Sized p → Sized q → Closed a (p .globals .pmon) → SameBut a p q
     → Alongside a (tickOf everything o₁ p ram) (tickOf everything o₂ q ram)
-unfolding tickOf voicesTick sharedFrom echoLane pairBytes
+unfolding tickOf voicesTick echoLane pairBytes
 tick-same a o₁ o₂ p q ram h k l s =
-    let c = sharedOf (p .glob) (p .registers) in
-    let d = sharedOf (q .glob) (q .registers) in
+    let c = sharedOf (p .globals) (p .registers) in
+    let d = sharedOf (q .globals) (q .registers) in
     let r = turns (turn 0xFF o₁ c ram) 8 (startOf p) in
     let t = turns (turn 0xFF o₂ d ram) 8 (startOf q) in
     let b : Beside a c p q 8 r t =
     subst (λ (z : Shared). Beside a c p q 8 r (turns (turn 0xFF o₂ z ram) 8 (startOf q))) (shared-same a p q s)
     (turns-both (Beside a c p q) (turn 0xFF o₁ c ram) (turn 0xFF o₂ c ram) 8 (λ n r t m x. beside-turn a c ram o₁ o₂ p q n r t m l x) 8 (startOf p) (startOf q) (omega arith)
     (record { sized₁ = h; sized₂ = k; same = s; row₁ = refl; row₂ = refl; lanes = λ j m. absurd (omega arith); prev = λ m o t. refl })) in
-    let e = echo-same a p q ram (r .acc .input) (t .acc .input) s in
-    let slot : Glob → List ℕ = (λ g. pairBytes (g .«echo_out_l») (g .«echo_out_r»)) in
+    let e = echo-same a p q ram (r .sums .input) (t .sums .input) s in
+    let slot : Globals → List ℕ = (λ g. pairBytes (g .«echo_out_l») (g .«echo_out_r»)) in
     record {
       parts =
           record {
@@ -418,10 +409,10 @@ tick-same a o₁ o₂ p q ram h k l s =
             taps = s .taps;
             left = e .1;
             right = e .2;
-            glob = e .0;
+            globals = e .0;
           };
       lanes =
-          lanes-more (λ (j : ℕ). j < 8 → Outside a j) 8 (r .row) (t .row) (slot (echoIn p ram (r .acc .input) .glob)) (slot (echoIn q ram (t .acc .input) .glob)) (b .row₁) (b .row₂) refl refl
+          lanes-more (λ (j : ℕ). j < 8 → Outside a j) 8 (r .row) (t .row) (slot (echoIn p ram (r .sums .input) .globals)) (slot (echoIn q ram (t .sums .input) .globals)) (b .row₁) (b .row₂) refl refl
           (λ o. ap slot (e .0)) (λ j m o. b .lanes j m (o m));
     }
 
@@ -438,12 +429,12 @@ kept-behind b bs cs o₁ o₂ ram t u e f l k =
     record { parts = z .parts; rows = more l (z .rows); left = z .left; right = z .right }
 
 pub kept : (s : ℕ) (bs : List Beat) (a : ℕ) (o₁ o₂ : List ℕ) (p q : Parts) (ram : List ℕ) → Small bs → Sized p → Sized q
-    → ((j : ℕ) → j < 8 → bit s j ≡ true → bit a j ≡ true) → SameBut a p q → Quiet bs (modesIn (p .glob))
-    → Kept (joins bs (modesIn (p .glob)) a) ram (tape everything bs o₁ p ram) (tape everything (keep s bs) o₂ q ram)
+    → ((j : ℕ) → j < 8 → bit s j ≡ true → bit a j ≡ true) → SameBut a p q → Quiet bs (modesIn (p .globals))
+    → Kept (joins bs (modesIn (p .globals)) a) ram (tape everything bs o₁ p ram) (tape everything (keep s bs) o₂ q ram)
 unfolding Small keep Quiet joins tape writeParts
 kept s [] a o₁ o₂ p q ram m h k w e t = record { parts = e; rows = none; left = refl; right = refl }
 kept s (put i x ∷ bs) a o₁ o₂ p q ram m h k w e t =
-    let b = joins bs (modesAfter i x (modesIn (p .glob))) a in
+    let b = joins bs (modesAfter i x (modesIn (p .globals))) a in
     let p₁ = writeParts i x p in
     let q₁ = writeParts i x q in
     tested (λ (cs : List Beat). Kept b ram (tape everything bs o₁ p₁ ram) (tape everything cs o₂ q ram)) (named s i)
@@ -452,15 +443,15 @@ kept s (put i x ∷ bs) a o₁ o₂ p q ram m h k w e t =
     kept s bs a o₁ o₂ p₁ q ram (m .2) (sized-write i x p h) k w (own-write i x a p q (m .0) (f .0) (w (i / 16) (omega (arith, m .0)) (f .1)) h k e) t)
     (λ n. kept s bs a o₁ o₂ p₁ q₁ ram (m .2) (sized-write i x p h) (sized-write i x q k) w (both-write i x a p q (m .0) h k e) t)
 kept s (tick ∷ bs) a o₁ o₂ p q ram m h k w e t =
-    let pmon = p .glob .pmon in
+    let pmon = p .globals .pmon in
     let b = joinedBy pmon a in
     let x = tickOf everything o₁ p ram in
     let y = tickOf everything o₂ q ram in
     let z = tick-same b o₁ o₂ p q ram h k (joined-closed pmon a) (same-mono a b p q (joined-more pmon a) e) in
-    let c = joins bs (modesIn (p .glob)) b in
-    kept-behind c bs (keep s bs) (drop 36 o₁) (drop 36 o₂) ram x y (ram-kept everything o₁ p ram (t .0)) (ram-kept everything o₂ q ram (rw (← (e .glob)) (t .0)))
-    (lanes-mono b c (x .row) (y .row) (joins-more bs (modesIn (p .glob)) b) (z .lanes))
-    (subst (λ (n : Modes). Quiet bs n → Kept (joins bs n b) ram (tape everything bs (drop 36 o₁) (x .parts) ram) (tape everything (keep s bs) (drop 36 o₂) (y .parts) ram)) (modes-tick everything o₁ p ram)
+    let c = joins bs (modesIn (p .globals)) b in
+    kept-behind c bs (keep s bs) (drop 36 o₁) (drop 36 o₂) ram x y (ram-kept everything o₁ p ram (t .0)) (ram-kept everything o₂ q ram (rw (← (e .globals)) (t .0)))
+    (lanes-mono b c (x .row) (y .row) (joins-more bs (modesIn (p .globals)) b) (z .lanes))
+    (subst (λ (n : Fields). Quiet bs n → Kept (joins bs n b) ram (tape everything bs (drop 36 o₁) (x .parts) ram) (tape everything (keep s bs) (drop 36 o₂) (y .parts) ram)) (modes-tick everything o₁ p ram)
     (kept s bs b (drop 36 o₁) (drop 36 o₂) (x .parts) (y .parts) ram m (sized-tick everything o₁ p ram h) (sized-tick everything o₂ q ram k) (λ j l n. joined-more pmon a j l (w j l n)) (z .parts)) (t .1))
 kept s (ask r ∷ bs) a o₁ o₂ p q ram m h k w e t =
     let z = kept s bs a o₁ o₂ p q ram m h k w e t in

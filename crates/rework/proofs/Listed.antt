@@ -9,7 +9,7 @@ use lib.ListN.{getD, set, drop, length, length-append, length-set, List·getD-ap
 use lib.Seq.{drop-cons, append-snoc, set-at, getD-at, ext-getD}
 use Rattle.numbers.specs.Listed.{listed}
 
-length-listed : {A : Type 0} (f : ℕ → A) (n : ℕ) → length (listed f n) ≡ n
+pub length-listed : {A : Type 0} (f : ℕ → A) (n : ℕ) → length (listed f n) ≡ n
 unfolding listed
 length-listed f zero = refl
 length-listed f (suc n) = let e = length-listed f n in length-append (listed f n) (f n ∷ []) ∙ omega (arith, e)

@@ -1,6 +1,6 @@
 -- Every voice polled first, then the noise, then the voices: the same tick as `tickOf`, which polls each voice in its lane. A poll of a voice
 -- passes over the steps of the voices before it, and with its own step makes its turn.
-use mathlib.Core.Bool.{Bool, true, false, not, _&&_}
+use mathlib.Core.Bool.{Bool, true, false}
 use mathlib.Core.List.{List, [], _∷_, _++_}
 use mathlib.Core.Logic.{_≢_}
 use mathlib.Core.Path.{_≡_, refl, sym, ap, subst, _∙_}
@@ -15,22 +15,19 @@ use Rattle.numbers.specs.Choice.{if_then_else_}
 use Rattle.numbers.specs.Signed.{highZ}
 use Rattle.numbers.proofs.Choice.{chosen}
 use Rattle.numbers.specs.Bits.{bit, withBit}
+use Rattle.numbers.proofs.Bits.{bit-here, bit-there, with-byte, byte-ext}
+use Rattle.numbers.specs.Listed.{turns}
 use Rattle.dsp.specs.Machine.{noVoice, apart}
-use Rattle.dsp.specs.Envelope.{isOff}
-use Rattle.dsp.specs.Voice.{withKey}
-use Rattle.dsp.specs.Registers.{turns}
+use Rattle.dsp.specs.Keys.{keyedOff, keyedOn, polledVoice, polledEndx, polledDelay}
+use Rattle.dsp.specs.Voice.{Sounding}
 use Rattle.dsp.specs.Sheet.{laneBytes}
-use Rattle.dsp.specs.Lane.{settingsOf, playOf, voiceOf, keyedOff, keyedOn, delayOf, waited, sourceOf, Cell, polledOf, waitedOf, cellAfter, cellOf, putEndx, putBytes, added, ownCell, turned}
-use Rattle.dsp.specs.Tick.{Round, turn, voicesTick, globTick, sharedFrom, sharedOf, startOf, tickOf}
-use Rattle.dsp.specs.declared.adsr.EnvelopePhase.the-variants.{Release}
-use Rattle.dsp.specs.declared.lane.Shared.{Shared}
+use Rattle.dsp.specs.Lane.{waited, sourceOf, Cell, polledOf, waitedOf, cellAfter, cellOf, putEndx, putBytes, added, ownCell, turned, Shared}
+use Rattle.dsp.specs.Tick.{Round, turn, voicesTick, globalsTick, sharedOf, startOf, tickOf}
 use Rattle.dsp.specs.declared.voice.Voice.{Voice}
-use Rattle.dsp.specs.declared.play.Play.{Play}
-use Rattle.dsp.proofs.Turns.{turns-keep, turns-same}
+use Rattle.numbers.proofs.Turns.{turns-keep, turns-same}
 use Rattle.dsp.proofs.Whole.{full, tick-whole}
-use Rattle.rework.specs.Order.{polledVoice, Polled, pollOne, polledParts, echoBehind, PollFirst}
+use Rattle.rework.specs.Order.{Polled, pollOne, polledParts, echoBehind, PollFirst}
 use Rattle.rework.proofs.Shows.{put-sized, put-endx}
-use Rattle.rework.proofs.Bits.{bit-here, bit-there, with-byte, byte-ext}
 
 -- ---- stores
 
@@ -52,8 +49,8 @@ with-over : (x n : ℕ) (a b : Bool) → x < 256 → n < 8 → withBit (withBit 
 with-over x n a b l m =
     byte-ext _ _ (with-byte (withBit x n a) n b (with-byte x n a l m) m) (with-byte x n b l m)
     (λ k h. elim (ℕ-discrete k n) [
-      | yes p ↦ rw p (bit-here (withBit x n a) n b m ∙ sym (bit-here x n b m))
-      | no p ↦ bit-there (withBit x n a) n k b m h p ∙ bit-there x n k a m h p ∙ sym (bit-there x n k b m h p)
+      | yes p ↦ rw p (bit-here (withBit x n a) n b ∙ sym (bit-here x n b))
+      | no p ↦ bit-there (withBit x n a) n k b p ∙ bit-there x n k a p ∙ sym (bit-there x n k b p)
     ])
 
 with-swap : (x n j : ℕ) (a b : Bool) → x < 256 → n < 8 → j < 8 → n ≢ j → withBit (withBit x j a) n b ≡ withBit (withBit x n b) j a
@@ -61,29 +58,16 @@ with-swap x n j a b l m q d =
     byte-ext _ _ (with-byte (withBit x j a) n b (with-byte x j a l q) m) (with-byte (withBit x n b) j a (with-byte x n b l m) q)
     (λ k h. elim (ℕ-discrete k n) [
       | yes p ↦
-          rw p (bit-here (withBit x j a) n b m ∙ sym (bit-there (withBit x n b) j n a q m d ∙ bit-here x n b m))
+          rw p (bit-here (withBit x j a) n b ∙ sym (bit-there (withBit x n b) j n a d ∙ bit-here x n b))
       | no p ↦
-          bit-there (withBit x j a) n k b m h p
+          bit-there (withBit x j a) n k b p
           ∙ elim (ℕ-discrete k j) [
-            | yes e ↦ rw e (bit-here x j a q ∙ sym (bit-here (withBit x n b) j a q))
-            | no e ↦ bit-there x j k a q h e ∙ sym (bit-there (withBit x n b) j k a q h e ∙ bit-there x n k b m h p)
+            | yes e ↦ rw e (bit-here x j a ∙ sym (bit-here (withBit x n b) j a))
+            | no e ↦ bit-there x j k a e ∙ sym (bit-there (withBit x n b) j k a e ∙ bit-there x n k b p)
           ]
     ])
 
 -- ---- a poll, and the step behind it
-
--- Release, by a test
-off-play : (b e : Bool) (v : Voice)
-    → (let released : Play → Play = (λ p. withKey p false (record { level = p .envelope .level; phase = Release; counter = p .envelope .counter })) in
-    playOf e (voiceOf v (if b then released (playOf false v) else playOf false v) (v .brr .«sample_buffer»)) ≡ (if b then released (playOf e v) else playOf e v))
-off-play true e v = refl
-off-play false e v = refl
-
--- the play of a polled voice: ENDX goes with the register
-polled-play : (off on : Bool) (dir : ℕ) (v : Voice) (e : Bool) → playOf (if on then false else e) (polledVoice off on dir v) ≡ keyedOn on dir (v .srcn) (keyedOff off (playOf e v))
-unfolding keyedOn keyedOff
-polled-play off true dir v e = refl
-polled-play off false dir v e = off-play (off && not (isOff (v .adsr .«envelope_phase»))) e v
 
 -- what all voices see, behind the poll
 abbrev behind : Shared → Shared
@@ -101,14 +85,13 @@ module _ (c : Shared) (ram : List ℕ) where
 
   -- a voice that was polled steps as one that polls itself
   cell-behind : (n : ℕ) (prev : ℤ) (v : Voice) (delay srcn envx : ℕ) (e : Bool)
-      → cellOf (behind c) ram n prev (polledVoice (off n) (on n) (c .«dir_base») v) (delayOf (on n) delay) srcn envx (if on n then false else e) ≡ cellOf c ram n prev v delay srcn envx e
+      → cellOf (behind c) ram n prev (polledVoice (off n) (on n) (c .«dir_base») v) (polledDelay (on n) delay) srcn envx (if on n then false else e) ≡ cellOf c ram n prev v delay srcn envx e
   unfolding cellOf cellAfter waitedOf polledOf keyedOff keyedOn
   cell-behind n prev v delay srcn envx e =
-      let w = polledVoice (off n) (on n) (c .«dir_base») v in
-      let p = playOf (if on n then false else e) w in
-      let by : ℕ → Play → Cell = (λ d q. cellAfter c n v (waited ram (c .dir) srcn (settingsOf v) (v .pitch) (sourceOf (c .pmon) n prev) envx d (record { play = q; samples = v .brr .«sample_buffer» }))) in
-      ap (λ (b : Bool). by (delayOf b (delayOf (on n) delay)) (keyedOn b (c .«dir_base») (w .srcn) (keyedOff b p))) (no-bit n)
-      ∙ ap (by (delayOf (on n) delay)) (polled-play (off n) (on n) (c .«dir_base») v e)
+      let s : Sounding = record { voice = polledVoice (off n) (on n) (c .«dir_base») v; endx = if on n then false else e } in
+      let by : Bool → Cell =
+      (λ b. cellAfter c n (waited ram (c .dir) srcn (sourceOf (c .pmon) n prev) envx (polledDelay b (polledDelay (on n) delay)) (record { voice = polledVoice b b (c .«dir_base») (s .voice); endx = polledEndx b (s .endx) }))) in
+      ap by (no-bit n)
 
   -- ---- rounds
 
@@ -119,16 +102,16 @@ module _ (c : Shared) (ram : List ℕ) where
         voices = set (r .voices) n (x .voice);
         delays = set (r .delays) n (x .delay);
         bytes = putBytes n (x .envx) (x .out) (x .endx) (r .bytes);
-        acc = added (bit (c .eon) n) (x .out) (x .voice .«left_vol») (x .voice .«right_vol») (r .acc);
+        sums = added (bit (c .eon) n) (x .out) (x .voice .«left_vol») (x .voice .«right_vol») (r .sums);
         row = r .row ++ laneBytes (x .out) (x .envx) (x .endx);
       }
 
   -- a turn in which the voice polls itself, and one behind the poll
   abbrev whole : ℕ → Round → Round
-  whole n r = put n r (ownCell c ram n (r .acc .prev) (getD (r .voices) n noVoice) (getD (r .delays) n 0) (r .bytes))
+  whole n r = put n r (ownCell c ram n (r .sums .prev) (getD (r .voices) n noVoice) (getD (r .delays) n 0) (r .bytes))
 
   abbrev step : ℕ → Round → Round
-  step n r = put n r (ownCell (behind c) ram n (r .acc .prev) (getD (r .voices) n noVoice) (getD (r .delays) n 0) (r .bytes))
+  step n r = put n r (ownCell (behind c) ram n (r .sums .prev) (getD (r .voices) n noVoice) (getD (r .delays) n 0) (r .bytes))
 
   turn-is : (old : List ℕ) (n : ℕ) (r : Round) → n < 8 → turn 0xFF old c ram n r ≡ whole n r
   unfolding turn turned
@@ -140,7 +123,7 @@ module _ (c : Shared) (ram : List ℕ) where
 
   -- the poll of voice j in a round
   abbrev in-round : Round → Polled → Round
-  in-round r p = record { voices = p .voices; delays = p .delays; bytes = p .registers; acc = r .acc; row = r .row }
+  in-round r p = record { voices = p .voices; delays = p .delays; bytes = p .registers; sums = r .sums; row = r .row }
 
   abbrev of-round : Round → Polled
   of-round r = record { voices = r .voices; delays = r .delays; registers = r .bytes }
@@ -214,13 +197,13 @@ module _ (c : Shared) (ram : List ℕ) where
   poll-own : (b : Bool) (n : ℕ) (bytes : List ℕ) → n < 8 → length bytes ≡ 128
       → bit (getD (if b then putEndx n false bytes else bytes) 0x7C 0) n ≡ (if b then false else bit (getD bytes 0x7C 0) n)
   poll-own true n bytes l z =
-      ap (λ (x : ℕ). bit x n) (getD-set-same bytes 0x7C (withBit (getD bytes 0x7C 0) n false) 0 (omega (arith, z))) ∙ bit-here (getD bytes 0x7C 0) n false l
+      ap (λ (x : ℕ). bit x n) (getD-set-same bytes 0x7C (withBit (getD bytes 0x7C 0) n false) 0 (omega (arith, z))) ∙ bit-here (getD bytes 0x7C 0) n false
   poll-own false n bytes l z = refl
 
   poll-past : (b : Bool) (n j : ℕ) (bytes : List ℕ) → n < 8 → j < 8 → n ≢ j → length bytes ≡ 128
       → bit (getD (if b then putEndx j false bytes else bytes) 0x7C 0) n ≡ bit (getD bytes 0x7C 0) n
   poll-past true n j bytes l m d z =
-      ap (λ (x : ℕ). bit x n) (getD-set-same bytes 0x7C (withBit (getD bytes 0x7C 0) j false) 0 (omega (arith, z))) ∙ bit-there (getD bytes 0x7C 0) j n false m l d
+      ap (λ (x : ℕ). bit x n) (getD-set-same bytes 0x7C (withBit (getD bytes 0x7C 0) j false) 0 (omega (arith, z))) ∙ bit-there (getD bytes 0x7C 0) j n false d
   poll-past false n j bytes l m d z = refl
 
   -- ---- lengths
@@ -255,21 +238,21 @@ module _ (c : Shared) (ram : List ℕ) where
       let b = r .bytes in
       let v = getD (r .voices) n noVoice in
       let w = polledVoice (off n) (on n) (c .«dir_base») v in
-      let d = delayOf (on n) (getD (r .delays) n 0) in
+      let d = polledDelay (on n) (getD (r .delays) n 0) in
       let ev = getD-set-same (r .voices) n w noVoice (omega (arith, h .voices)) in
       let ed = getD-set-same (r .delays) n d 0 (omega (arith, h .delays)) in
       let es = poll-byte (on n) n (n * 16 + 4) b (λ q. absurd (omega (arith, l, q))) in
       let ex = poll-byte (on n) n (n * 16 + 8) b (λ q. absurd (omega (arith, l, q))) in
       let ee = poll-own (on n) n b l (h .bytes) in
-      let x = ownCell c ram n (r .acc .prev) v (getD (r .delays) n 0) b in
+      let x = ownCell c ram n (r .sums .prev) v (getD (r .delays) n 0) b in
       ap (put n (poll n r))
-      ((λ i. cellOf (behind c) ram n (r .acc .prev) (ev i) (ed i) (es i) (ex i) (ee i))
-      ∙ cell-behind n (r .acc .prev) v (getD (r .delays) n 0) (getD b (n * 16 + 4) 0) (getD b (n * 16 + 8) 0) (bit (getD b 0x7C 0) n))
+      ((λ i. cellOf (behind c) ram n (r .sums .prev) (ev i) (ed i) (es i) (ex i) (ee i))
+      ∙ cell-behind n (r .sums .prev) v (getD (r .delays) n 0) (getD b (n * 16 + 4) 0) (getD b (n * 16 + 8) 0) (bit (getD b 0x7C 0) n))
       ∙ (λ i. record {
         voices = set-set (r .voices) n w (x .voice) i;
         delays = set-set (r .delays) n d (x .delay) i;
         bytes = put-own (on n) n (x .envx) (x .out) (x .endx) b l (h .bytes) (h .endx) i;
-        acc = whole n r .acc;
+        sums = whole n r .sums;
         row = whole n r .row;
       })
 
@@ -282,22 +265,22 @@ module _ (c : Shared) (ram : List ℕ) where
       let far : n ≢ j = (λ e. absurd (omega (arith, q, e))) in
       let w : Voice → Voice = polledVoice (off j) (on j) (c .«dir_base») in
       let ev = getD-set-other (r .voices) j n (w (getD (r .voices) j noVoice)) noVoice far in
-      let ed = getD-set-other (r .delays) j n (delayOf (on j) (getD (r .delays) j 0)) 0 far in
+      let ed = getD-set-other (r .delays) j n (polledDelay (on j) (getD (r .delays) j 0)) 0 far in
       let es = poll-byte (on j) j (n * 16 + 4) b (λ e. absurd (omega (arith, l, e))) in
       let ex = poll-byte (on j) j (n * 16 + 8) b (λ e. absurd (omega (arith, l, e))) in
       let ee = poll-past (on j) n j b l m far (h .bytes) in
-      let x = ownCell (behind c) ram n (r .acc .prev) (getD (r .voices) n noVoice) (getD (r .delays) n 0) b in
+      let x = ownCell (behind c) ram n (r .sums .prev) (getD (r .voices) n noVoice) (getD (r .delays) n 0) b in
       let back : j ≢ n = (λ e. far (sym e)) in
-      ap (put n (poll j r)) (λ i. cellOf (behind c) ram n (r .acc .prev) (ev i) (ed i) (es i) (ex i) (ee i))
+      ap (put n (poll j r)) (λ i. cellOf (behind c) ram n (r .sums .prev) (ev i) (ed i) (es i) (ex i) (ee i))
       ∙ (λ i. record {
         voices =
             (set-swap (r .voices) j n (w (getD (r .voices) j noVoice)) (x .voice) back
             ∙ ap (λ (v : Voice). set (set (r .voices) n (x .voice)) j (w v)) (sym (getD-set-other (r .voices) n j (x .voice) noVoice back))) i;
         delays =
-            (set-swap (r .delays) j n (delayOf (on j) (getD (r .delays) j 0)) (x .delay) back
-            ∙ ap (λ (v : ℕ). set (set (r .delays) n (x .delay)) j (delayOf (on j) v)) (sym (getD-set-other (r .delays) n j (x .delay) 0 back))) i;
+            (set-swap (r .delays) j n (polledDelay (on j) (getD (r .delays) j 0)) (x .delay) back
+            ∙ ap (λ (v : ℕ). set (set (r .delays) n (x .delay)) j (polledDelay (on j) v)) (sym (getD-set-other (r .delays) n j (x .delay) 0 back))) i;
         bytes = put-past (on j) n j (x .envx) (x .out) (x .endx) b l m far (h .bytes) (h .endx) i;
-        acc = step n r .acc;
+        sums = step n r .sums;
         row = step n r .row;
       })
 
@@ -340,13 +323,13 @@ dir-kept koff kon dir p =
     8 p (omega arith) refl
 
 pub poll-first : PollFirst
-unfolding tickOf voicesTick globTick sharedFrom turns
+unfolding tickOf voicesTick globalsTick turns
 poll-first d ram old v =
     let p = apart d in
-    let c = sharedOf (p .glob) (p .registers) in
+    let c = sharedOf (p .globals) (p .registers) in
     let h : Sized c ram (startOf p) = record { voices = v .voices; delays = v .delays; bytes = v .registers; endx = v .bytes 0x7C } in
     let q = polledParts p in
     let seen : ℕ → Shared = (λ dir. record { koff = 0; kon = 0; «dir_base» = c .«dir_base»; dir = dir; non = c .non; pmon = c .pmon; eon = c .eon; noise = c .noise }) in
     let e = dir-kept (c .koff) (c .kon) (c .«dir_base») (record { voices = p .voices; delays = p .delays; registers = p .registers }) in
     tick-whole old [] p ram
-    ∙ ap (echoBehind p ram (globTick (p .glob))) (sym (polls-first c ram (startOf p) h) ∙ (λ i. turns (turn 0xFF [] (seen (sym e i)) ram) 8 (startOf q)))
+    ∙ ap (echoBehind p ram (globalsTick (p .globals))) (sym (polls-first c ram (startOf p) h) ∙ (λ i. turns (turn 0xFF [] (seen (sym e i)) ram) 8 (startOf q)))

@@ -12,7 +12,7 @@ use Rattle.numbers.proofs.Choice.{tested}
 use Rattle.dsp.specs.Fit.{fit}
 use Rattle.dsp.specs.Registers.{Written, writeOf}
 use Rattle.dsp.specs.Mix.{Rendered, renderOf}
-use Rattle.dsp.specs.Tick.{After, refused, stepOf, Drove, drove, undriven, benchOf, ticksOf, driveOf}
+use Rattle.dsp.specs.Ticks.{After, refused, stepOf, Drove, drove, undriven, benchOf, ticksOf, driveOf}
 use Rattle.dsp.specs.declared.registers.Dsp.{Dsp}
 use Rattle.dsp.specs.declared.tick.Work.{Work}
 use Rattle.log.specs.Log.{readAt, decode}

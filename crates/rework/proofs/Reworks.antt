@@ -11,11 +11,12 @@ use Rattle.numbers.specs.Bytes.{copied}
 use Rattle.numbers.specs.Choice.{if_then_else_, _=?_}
 use Rattle.numbers.proofs.Choice.{tested}
 use Rattle.numbers.proofs.Parts.{copied-whole}
-use Rattle.dsp.specs.Machine.{newDsp, apart, together}
+use Rattle.dsp.specs.Machine.{apart, together}
+use Rattle.dsp.specs.PowerOn.{newDsp}
 use Rattle.dsp.specs.declared.registers.Dsp.{Dsp}
 use Rattle.sitting.specs.Run.{Outcome, runWith, runOf}
 use Rattle.rework.specs.Members.{voicesIn}
-use Rattle.rework.specs.Rework.{Left, endOf, refusalOf, setOf, only, reworked, reworkOf, afterFirst, reworkNewOf}
+use Rattle.rework.specs.Rework.{Left, endParts, refusalOf, setOf, only, reworked, reworkOf, afterFirst, reworkNewOf}
 
 -- the answer and the slices
 abbrev pub leaving : ℕ → Dsp → ℕ → ℕ → List ℕ → List ℕ → List ℕ → Left
@@ -51,7 +52,7 @@ module _ (s : ℕ) (start end : Dsp) (ram log₁ log₂ : List ℕ) where
   module _ {pcm sheet readings : List ℕ} {a : ℕ} {o : Outcome} (h : Done pcm sheet readings a o) where
     abbrev by : Bool → Left
     by b =
-        if b then leaving 0 (together (endOf a (apart (o .dsp)) (apart end))) a (voicesIn a) (o .pcm) (o .sheet) (o .readings) else
+        if b then leaving 0 (together (endParts a (apart (o .dsp)) (apart end))) a (voicesIn a) (o .pcm) (o .sheet) (o .readings) else
         leaving (o .refusal) start 0 0 (o .pcm) (o .sheet) (o .readings)
 
     -- the run was refused, which leaves the slices as it found them
@@ -60,7 +61,7 @@ module _ (s : ℕ) (start end : Dsp) (ram log₁ log₂ : List ℕ) where
     refused-run ek ed em en z =
         (λ i. leaving (ek i) (ed i) (em i) (en i) (o .pcm) (o .sheet) (o .readings)) ∙ sym (ap by (ne-eqb (o .refusal) 0 z)) ∙ h .is
 
-    pub whole-run : {n : ℕ} {d : Dsp} → o .refusal ≡ 0 → d ≡ together (endOf a (apart (o .dsp)) (apart end)) → n ≡ voicesIn a
+    pub whole-run : {n : ℕ} {d : Dsp} → o .refusal ≡ 0 → d ≡ together (endParts a (apart (o .dsp)) (apart end)) → n ≡ voicesIn a
         → leaving 0 d a n (o .pcm) (o .sheet) (o .readings) ≡ reworkOf s start end ram log₁ log₂ pcm sheet readings
     whole-run e ed en =
         (λ i. leaving 0 (ed i) a (en i) (o .pcm) (o .sheet) (o .readings)) ∙ sym (ap by (eq-eqb (o .refusal) 0 e)) ∙ h .is

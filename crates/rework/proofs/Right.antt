@@ -1,47 +1,46 @@
 -- A rework over any old sheet that agrees outside the set gives the run of the same log: lane by lane, tick by tick, beat by beat.
 use mathlib.Core.Bool.{Bool, true, false}
-use mathlib.Core.List.{List, [], _∷_, _++_}
+use mathlib.Core.List.{List, [], _∷_, _++_, map}
 use mathlib.Core.Path.{_≡_, refl, sym, ap, subst, _∙_}
 use Prim.Native.Nat.{ℕ, zero, suc, _+_, _*_, _/_, _%_, _≤_, _<_}
 use native.Mathlib.Omega.{arith}
 use lib.IntN.{ℤ, pos}
-use lib.ListN.{getD, set, drop, replicate, length, length-set, length-append, length-replicate}
+use lib.ListN.{getD, set, drop, replicate, length, length-set, length-append, length-replicate, length-map}
 use Rattle.numbers.specs.Choice.{if_then_else_, _<?_, _=?_}
 use Rattle.numbers.specs.Signed.{cutZ}
-use Rattle.numbers.proofs.Choice.{chosen}
+use Rattle.numbers.proofs.Choice.{chosen, chosen-both}
+use Rattle.numbers.proofs.Lists.{map-both}
 use Rattle.numbers.specs.Bits.{bit}
 use Rattle.sound.specs.Sound.{joined}
-use Rattle.dsp.specs.Machine.{noVoice, Parts, apart}
-use Rattle.dsp.specs.Registers.{at, turns, writeVoice, resets, silenced, silenceVoice, silenceAll, bytesAfter, voicesAfter, globWrite, writeParts}
-use Rattle.dsp.specs.Mix.{masterOf}
-use Rattle.dsp.specs.Sheet.{pairBytes, laneBytes, laneAt}
+use Rattle.numbers.specs.Listed.{turns}
 use Rattle.dsp.specs.Noise.{noiseTick}
-use Rattle.dsp.specs.Echo.{withEcho, echoNow, historyNow, echoMoved, echoWritten, echoTick, echoFrom, echoLane}
-use Rattle.dsp.specs.Lane.{Cell, cellAfter, cellOf, ownCell, shownCell, added, putBytes, landed, turned}
-use Rattle.dsp.specs.Fit.{FitGlob, Fit}
-use Rattle.dsp.specs.Tick.{Round, landing, turn, voicesTick, globTick, sharedFrom, sharedOf, everything, startOf, Ticked, frameOf, mixed, tickOf, benchTick}
+use Rattle.dsp.specs.Machine.{noVoice, Parts, apart, Globals}
+use Rattle.dsp.specs.With.{withEcho}
+use Rattle.dsp.specs.Fit.{FitGlobals, Fit}
+use Rattle.dsp.specs.Keys.{silenced}
+use Rattle.dsp.specs.Registers.{at, writeVoice, resets, bytesAfter, voicesAfter, globalsAfter, writeParts}
+use Rattle.dsp.specs.Mix.{masterOf, Stereo}
+use Rattle.dsp.specs.Sheet.{pairBytes, laneBytes, laneAt}
+use Rattle.dsp.specs.Echo.{echoNow, historyNow, echoMoved, echoWritten, echoTick, echoFrom, echoLane}
+use Rattle.dsp.specs.Lane.{Cell, cellAfter, cellOf, ownCell, shownCell, added, putBytes, landed, turned, Shared}
+use Rattle.dsp.specs.Tick.{Round, landing, turn, voicesTick, globalsTick, sharedOf, everything, startOf, Ticked, frameOf, mixed, tickOf}
+use Rattle.dsp.specs.Ticks.{benchTick}
 use Rattle.dsp.specs.declared.voice.Voice.{Voice}
-use Rattle.dsp.specs.declared.lane.Shared.{Shared}
-use Rattle.dsp.specs.declared.mix.Stereo.{Stereo}
 use Rattle.dsp.specs.declared.registers.Dsp.{Dsp}
-use Rattle.dsp.specs.declared.registers.Glob.{Glob}
 use Rattle.dsp.specs.declared.tick.Work.{Work}
 use Rattle.dsp.proofs.Whole.{full}
-use Rattle.dsp.proofs.Turns.{turns-keep, set-keeps}
+use Rattle.numbers.proofs.Turns.{turns-keep, set-keeps}
 use Rattle.dsp.proofs.Lanes.{fit-kept-either}
 use Rattle.dsp.proofs.Batches.{lane-part}
 use Rattle.dsp.proofs.Ticks.{RoundFit, BenchFit, fit-kept-turn, fit-kept-bench, fit-kept-bench-write}
+use Rattle.dsp.proofs.Fits.{level-fit}
+use Rattle.dsp.proofs.Moves.{volumes-kept}
 use Rattle.rework.specs.Differ.{Outside, Value}
 use Rattle.rework.proofs.Lanes.{lane-last}
 use Rattle.rework.proofs.Sixteen.{Is16, joined-halves, output16, fir16, noise16, sample16}
 use Rattle.rework.proofs.Tape.{Beat, put, tick, ask, Small, Quiet, modesIn, Tape, behindTick, tape, modes-tick, SameLanes, bare, Sim, Over, upon, Right}
 
 -- ---- two lists side by side
-
--- what two choices by one test have in common
-chosen-both : {A : Type 0} (R : A → A → Type 0) (b : Bool) {x y u v : A} → R x u → R y v → R (if b then x else y) (if b then u else v)
-chosen-both R true p q = p
-chosen-both R false p q = q
 
 -- after a store into both at n
 set-both : {A : Type 0} (R : A → A → Type 0) (d : A) (xs ys : List A) (n : ℕ) (x y : A) → length xs ≡ length ys
@@ -53,13 +52,6 @@ set-both R d (v ∷ xs) (w ∷ ys) zero x y e zero p h = p refl
 set-both R d (v ∷ xs) (w ∷ ys) zero x y e (suc m) p h = h
 set-both R d (v ∷ xs) (w ∷ ys) (suc n) x y e zero p h = h
 set-both R d (v ∷ xs) (w ∷ ys) (suc n) x y e (suc m) p h = set-both R d xs ys n x y (omega arith) m (λ q. p (ap suc q)) h
-
--- through turns of both
-turns-both : {A : Type 0} (R : A → A → Type 0) (f : ℕ → A → A) (k : ℕ) → ((n : ℕ) (x y : A) → n < k → R x y → R (f n x) (f n y))
-    → (n : ℕ) (x y : A) → n ≤ k → R x y → R (turns f n x) (turns f n y)
-unfolding turns
-turns-both R f k h zero x y l p = p
-turns-both R f k h (suc n) x y l p = h n (turns f n x) (turns f n y) (omega arith) (turns-both R f k h n x y (omega arith) p)
 
 -- the voices of a rework and of the run: the same in the set, and with the same volumes everywhere
 record Beside (a : ℕ) (vs ws : List Voice) : Type 0 where
@@ -80,15 +72,23 @@ beside-set a n vs ws v w h e l r =
 
 -- ---- a register write
 
+beside-silenced : (a : ℕ) (vs ws : List Voice) → Beside a vs ws → Beside a (map silenced vs) (map silenced ws)
+beside-silenced a vs ws h =
+    record {
+      count = length-map vs silenced ∙ h .count ∙ sym (length-map ws silenced);
+      voices = λ j l b. map-both _≡_ silenced noVoice (λ v w e. ap silenced e) vs ws (h .count) j (h .voices j l b);
+      lefts = λ j l. map-both (λ (v w : Voice). v .«left_vol» ≡ w .«left_vol») silenced noVoice (λ v w e. e) vs ws (h .count) j (h .lefts j l);
+      rights = λ j l. map-both (λ (v w : Voice). v .«right_vol» ≡ w .«right_vol») silenced noVoice (λ v w e. e) vs ws (h .count) j (h .rights j l);
+    }
+
 beside-write : (a i x : ℕ) (vs ws : List Voice) → i < 128 → Beside a vs ws → Beside a (voicesAfter i x vs) (voicesAfter i x ws)
-unfolding silenceAll silenceVoice
 beside-write a i x vs ws l h =
     let n = i / 16 in
     let m : n < 8 = omega arith in
     chosen-both (Beside a) (i % 16 <? 8)
     (beside-set a n vs ws _ _ h (λ b. ap (writeVoice (i % 16) x) (h .voices n m b)) (λ k. at (i % 16) 0 (cutZ 0x80 (pos x)) (h .lefts n m k)) (λ k. at (i % 16) 1 (cutZ 0x80 (pos x)) (h .rights n m k)))
     (chosen-both (Beside a) (resets i x)
-    (turns-both (Beside a) silenceVoice 8 (λ j us zs k g. beside-set a j us zs _ _ g (λ b. ap silenced (g .voices j k b)) (g .lefts j k) (g .rights j k)) 8 vs ws (omega arith) h)
+    (beside-silenced a vs ws h)
     h)
 
 -- ---- one lane
@@ -116,12 +116,7 @@ shown-read y v delay h l r = record { out = joined-halves (y .out) h; envx = ref
 
 -- the cell that the run's voice j comes to
 abbrev cellIn : Shared → List ℕ → ℕ → Round → Cell
-cellIn c ram j s = ownCell c ram j (s .acc .prev) (getD (s .voices) j noVoice) (getD (s .delays) j 0) (s .bytes)
-
-volumes-kept : (c : Shared) (ram : List ℕ) (j : ℕ) (s : Round)
-    → (getD (s .voices) j noVoice .«left_vol» ≡ cellIn c ram j s .voice .«left_vol») × (getD (s .voices) j noVoice .«right_vol» ≡ cellIn c ram j s .voice .«right_vol»)
-unfolding ownCell cellOf cellAfter
-volumes-kept c ram j s = (refl, refl)
+cellIn c ram j s = ownCell c ram j (s .sums .prev) (getD (s .voices) j noVoice) (getD (s .delays) j 0) (s .bytes)
 
 -- a rework's round beside the run's
 record Abreast (a : ℕ) (r s : Round) : Type 0 where
@@ -129,33 +124,33 @@ record Abreast (a : ℕ) (r s : Round) : Type 0 where
   waits : length (r .delays) ≡ length (s .delays)
   delays : (j : ℕ) → j < 8 → bit a j ≡ true → getD (r .delays) j 0 ≡ getD (s .delays) j 0
   bytes : r .bytes ≡ s .bytes
-  acc : r .acc ≡ s .acc
+  sums : r .sums ≡ s .sums
   row : r .row ≡ s .row
 
 -- cells that show the same leave the rounds abreast
 land-both : (a j : ℕ) (w : Bool) (c : Shared) (r s : Round) (old new : List ℕ) (x y : Cell) → Abreast a r s → Shows x y → (bit a j ≡ true → x ≡ y)
     → (if w then slotOf x else old) ≡ slotOf y
-    → Abreast a (landing j r (landed w c j (r .acc) (r .bytes) old x)) (landing j s (landed true c j (s .acc) (s .bytes) new y))
+    → Abreast a (landing j r (landed w c j (r .sums) (r .bytes) old x)) (landing j s (landed true c j (s .sums) (s .bytes) new y))
 land-both a j w c r s old new x y h e q z =
     record {
       beside = beside-set a j (r .voices) (s .voices) (x .voice) (y .voice) (h .beside) (λ b k. q b k .voice) (e .left) (e .right);
       waits = length-set (r .delays) j (x .delay) ∙ h .waits ∙ sym (length-set (s .delays) j (y .delay));
       delays = λ n l b. set-both _≡_ 0 (r .delays) (s .delays) j (x .delay) (y .delay) (h .waits) n (λ m k. q (subst (λ (i : ℕ). bit a i ≡ true) m b) k .delay) (h .delays n l b);
       bytes = λ k. putBytes j (e .envx k) (e .out k) (e .endx k) (h .bytes k);
-      acc = λ k. added (bit (c .eon) j) (e .out k) (e .left k) (e .right k) (h .acc k);
+      sums = λ k. added (bit (c .eon) j) (e .out k) (e .left k) (e .right k) (h .sums k);
       row = λ k. h .row k ++ z k;
     }
 
 -- a voice of the set is worked by both; of another the rework shows what the run comes to
 lane-both : (a j : ℕ) (w : Bool) (c : Shared) (ram : List ℕ) (r s : Round) (old new : List ℕ) → bit a j ≡ w → j < 8 → Abreast a r s → Is16 (cellIn c ram j s .out)
     → (Outside a j → old ≡ slotOf (cellIn c ram j s))
-    → Abreast a (landing j r (turned w c ram j (getD (r .voices) j noVoice) (getD (r .delays) j 0) (r .acc) (r .bytes) old))
-    (landing j s (turned true c ram j (getD (s .voices) j noVoice) (getD (s .delays) j 0) (s .acc) (s .bytes) new))
+    → Abreast a (landing j r (turned w c ram j (getD (r .voices) j noVoice) (getD (r .delays) j 0) (r .sums) (r .bytes) old))
+    (landing j s (turned true c ram j (getD (s .voices) j noVoice) (getD (s .delays) j 0) (s .sums) (s .bytes) new))
 unfolding turned
 lane-both a j true c ram r s old new b l h o f =
     let x = cellIn c ram j r in
     let y = cellIn c ram j s in
-    let e : x ≡ y = (λ k. ownCell c ram j (h .acc k .prev) (h .beside .voices j l b k) (h .delays j l b k) (h .bytes k)) in
+    let e : x ≡ y = (λ k. ownCell c ram j (h .sums k .prev) (h .beside .voices j l b k) (h .delays j l b k) (h .bytes k)) in
     land-both a j true c r s old new x y h
     (record { out = λ k. e k .out; envx = λ k. e k .envx; endx = λ k. e k .endx; left = λ k. e k .voice .«left_vol»; right = λ k. e k .voice .«right_vol» })
     (λ _. e) (λ k. slotOf (e k))
@@ -163,7 +158,7 @@ lane-both a j false c ram r s old new b l h o f =
     let v = getD (r .voices) j noVoice in
     let d = getD (r .delays) j 0 in
     let y = cellIn c ram j s in
-    let k = volumes-kept c ram j s in
+    let k = volumes-kept c ram j (s .sums .prev) (getD (s .voices) j noVoice) (getD (s .delays) j 0) (s .bytes) in
     let g = shown-read y v d o (h .beside .lefts j l ∙ k .0) (h .beside .rights j l ∙ k .1) in
     land-both a j false c r s old new (shownCell old v d) y h (subst (λ (z : List ℕ). Shows (shownCell z v d) y) (sym (f b)) g)
     (λ t. let z : _≡_ {A = ℕ} 0 1 = cc in absurd (omega arith)) (f b)
@@ -189,7 +184,7 @@ sound-turn mask old c ram n j s l h =
     let d = getD (s .delays) j 0 in
     record {
       fit = fit-kept-turn mask old c ram j s l (h .fit);
-      samples = sample-set (s .voices) j _ (sample16 (bit mask j) c ram j (s .acc .prev) v d (s .bytes) (laneAt j old) n (h .samples j l)) (h .samples);
+      samples = sample-set (s .voices) j _ (sample16 (bit mask j) c ram j (s .sums .prev) v d (s .bytes) (laneAt j old) n (h .samples j l)) (h .samples);
     }
 
 sound-turns : (mask : ℕ) (old : List ℕ) (c : Shared) (ram : List ℕ) → Is16 (c .noise) → (n : ℕ) (s : Round) → n ≤ 8 → Sound s → Sound (turns (turn mask old c ram) n s)
@@ -202,9 +197,9 @@ out16 c ram j s n l h =
     let v = getD (s .voices) j noVoice in
     let d = getD (s .delays) j 0 in
     let x = cellIn c ram j s .voice in
-    let f = fit-kept-either true c ram j (s .acc .prev) v d (s .bytes) [] (h .fit .voices j l) (h .fit .delays j l) in
-    output16 (x .adsr .«envelope_phase») (x .adsr .«envelope_level») (x .«current_sample») (f .voice .adsr .level)
-    (sample16 true c ram j (s .acc .prev) v d (s .bytes) [] n (h .samples j l))
+    let f = fit-kept-either true c ram j (s .sums .prev) v d (s .bytes) [] (h .fit .voices j) (h .fit .delays j .0) in
+    output16 (x .adsr .«envelope_phase») (x .adsr .«envelope_level») (x .«current_sample») (level-fit x (f .voice))
+    (sample16 true c ram j (s .sums .prev) v d (s .bytes) [] n (h .samples j l))
 
 -- a turn puts its lane behind the row
 row-more : (o : List ℕ) (c : Shared) (ram : List ℕ) (j : ℕ) (s : Round) → j < 8 → turn 0xFF o c ram j s .row ≡ s .row ++ slotOf (cellIn c ram j s)
@@ -245,21 +240,20 @@ turns-abreast a old o c ram r s m g h z (suc n) l f =
 
 pub record Good (p : Parts) : Type 0 where
   pub round : Sound (startOf p)
-  pub glob : FitGlob (p .glob)
+  pub globals : FitGlobals (p .globals)
 
 pub good-start : (d : Dsp) → Value (apart d) → Fit d → Good (apart d)
 good-start d v f =
     record {
       round = record { fit = record { bytes = v .registers; count = v .voices; waits = v .delays; voices = f .voices; delays = f .delays }; samples = v .samples };
-      glob = f .glob;
+      globals = f .globals;
     }
 
 good-bench : (p : Parts) (ram old : List ℕ) → length ram ≡ 0x10000 → Good p → BenchFit (record { parts = p; ram = ram; pcm = []; sheet = []; old = old })
-good-bench p ram old l g = record { ram = l; round = g .round .fit; glob = g .glob }
+good-bench p ram old l g = record { ram = l; round = g .round .fit; globals = g .globals }
 
 -- what all voices see of the noise
-shared16 : (g : Glob) (bytes : List ℕ) → Is16 (sharedOf g bytes .noise)
-unfolding sharedFrom
+shared16 : (g : Globals) (bytes : List ℕ) → Is16 (sharedOf g bytes .noise)
 shared16 g bytes = noise16 (noiseTick (g .flg) (g .noise))
 
 -- what a tick leaves
@@ -267,12 +261,12 @@ pub good-tick : (w : Work) (old : List ℕ) (p : Parts) (ram : List ℕ) → len
 unfolding benchTick tickOf voicesTick
 good-tick w old p ram l g =
     let k = fit-kept-bench w (record { parts = p; ram = ram; pcm = []; sheet = []; old = old }) (good-bench p ram old l g) in
-    let t = sound-turns (w .voices) old (sharedOf (p .glob) (p .registers)) ram (shared16 (p .glob) (p .registers)) 8 (startOf p) (omega arith) (g .round) in
-    record { round = record { fit = k .round; samples = t .samples }; glob = k .glob }
+    let t = sound-turns (w .voices) old (sharedOf (p .globals) (p .registers)) ram (shared16 (p .globals) (p .registers)) 8 (startOf p) (omega arith) (g .round) in
+    record { round = record { fit = k .round; samples = t .samples }; globals = k .globals }
 
 -- what a write leaves
 pub good-write : (i x : ℕ) (p : Parts) → i < 128 → x < 256 → Good p → Good (writeParts i x p)
-unfolding writeParts silenceAll silenceVoice
+unfolding writeParts
 good-write i x p l m g =
     let k = fit-kept-bench-write i x _ l m (good-bench p (replicate 0x10000 0) [] (length-replicate {A = ℕ} 0x10000 0) g) in
     let h = g .round .samples in
@@ -282,9 +276,9 @@ good-write i x p l m g =
             fit = k .round;
             samples =
                 chosen Samples16 (i % 16 <? 8) (sample-set (p .voices) (i / 16) _ (h (i / 16) (omega arith)) h)
-                (chosen Samples16 (resets i x) (turns-keep Samples16 silenceVoice 8 (λ n vs b c. sample-set vs n _ (c n b) c) 8 (p .voices) (omega arith) h) h);
+                (chosen Samples16 (resets i x) (λ n b. map-both (λ (v w : Voice). Is16 (v .«current_sample»)) silenced noVoice (λ v w e. e) (p .voices) (p .voices) refl n (h n b)) h);
           };
-      glob = k .glob;
+      globals = k .globals;
     }
 
 -- ---- a register write keeps a rework's parts beside the run's
@@ -305,26 +299,25 @@ sim-write a i x p q l h g k =
       lefts = b .lefts;
       rights = b .rights;
       delays = h .delays;
-      glob = ap (globWrite i x) (h .glob);
+      globals = ap (globalsAfter i x) (h .globals);
     }
 
 -- ---- a tick
 
 -- the numbers without the echo's, after both ticks
-globs-both : (g k : Glob) (slot : List ℕ) (l r : ℤ) → bare g ≡ bare k → bare (echoFrom slot (globTick g)) ≡ bare (echoMoved (globTick k) l r)
-unfolding echoFrom echoMoved globTick
-globs-both g k slot l r e = ap globTick e
+globs-both : (g k : Globals) (slot : List ℕ) (l r : ℤ) → bare g ≡ bare k → bare (echoFrom slot (globalsTick g)) ≡ bare (echoMoved (globalsTick k) l r)
+unfolding echoFrom echoMoved globalsTick
+globs-both g k slot l r e = ap globalsTick e
 
-shared-both : (g k : Glob) (x y : List ℕ) → bare g ≡ bare k → x ≡ y → sharedOf g x ≡ sharedOf k y
-unfolding sharedFrom
+shared-both : (g k : Globals) (x y : List ℕ) → bare g ≡ bare k → x ≡ y → sharedOf g x ≡ sharedOf k y
 shared-both g k x y e d = λ i. sharedOf (e i) (d i)
 
 -- the stereo sample is of the echo's output and of numbers that are not the echo's
-masters-both : (g k : Glob) (s t : Stereo) → bare g ≡ bare k → g .«echo_out_l» ≡ k .«echo_out_l» → g .«echo_out_r» ≡ k .«echo_out_r» → s ≡ t → masterOf g s ≡ masterOf k t
+masters-both : (g k : Globals) (s t : Stereo) → bare g ≡ bare k → g .«echo_out_l» ≡ k .«echo_out_l» → g .«echo_out_r» ≡ k .«echo_out_r» → s ≡ t → masterOf g s ≡ masterOf k t
 unfolding masterOf
 masters-both g k s t e l r d = λ i. masterOf (withEcho (e i) 0 0 (l i) (r i)) (d i)
 
-echo16 : (g : Glob) (ram : List ℕ) (k : ℕ) (taps history : List ℤ) → Is16 (echoNow g ram k taps history)
+echo16 : (g : Globals) (ram : List ℕ) (k : ℕ) (taps history : List ℤ) → Is16 (echoNow g ram k taps history)
 unfolding echoNow
 echo16 g ram k taps history = fir16 (historyNow g ram k history) taps
 
@@ -337,16 +330,16 @@ record Same (a : ℕ) (ram : List ℕ) (t u : Ticked) : Type 0 where
   right : u .ram ≡ ram
 
 -- echo and mix: the echo's lane of the old sheet is the run's
-mixed-both : (a : ℕ) (slot found : List ℕ) (p q : Parts) (ram : List ℕ) (r s : Round) → bare (p .glob) ≡ bare (q .glob) → bit (q .glob .flg) 5 ≡ true → RoundFit s → Abreast a r s
-    → slot ≡ echoLane true (globTick (q .glob)) (q .taps) (q .left) (q .right) ram (s .acc .input) found .slot
-    → Same a ram (mixed (p .taps) r (echoLane false (globTick (p .glob)) (p .taps) (p .left) (p .right) ram (r .acc .input) slot))
-    (mixed (q .taps) s (echoLane true (globTick (q .glob)) (q .taps) (q .left) (q .right) ram (s .acc .input) found))
-unfolding echoLane echoTick echoFrom echoMoved echoWritten globTick pairBytes
+mixed-both : (a : ℕ) (slot found : List ℕ) (p q : Parts) (ram : List ℕ) (r s : Round) → bare (p .globals) ≡ bare (q .globals) → bit (q .globals .flg) 5 ≡ true → RoundFit s → Abreast a r s
+    → slot ≡ echoLane true (globalsTick (q .globals)) (q .taps) (q .left) (q .right) ram (s .sums .input) found .slot
+    → Same a ram (mixed (p .taps) r (echoLane false (globalsTick (p .globals)) (p .taps) (p .left) (p .right) ram (r .sums .input) slot))
+    (mixed (q .taps) s (echoLane true (globalsTick (q .globals)) (q .taps) (q .left) (q .right) ram (s .sums .input) found))
+unfolding echoLane echoTick echoFrom echoMoved echoWritten globalsTick pairBytes
 mixed-both a slot found p q ram r s e b f h z =
-    let k = globTick (q .glob) in
+    let k = globalsTick (q .globals) in
     let l = echoNow k ram 0 (q .taps) (q .left) in
     let m = echoNow k ram 2 (q .taps) (q .right) in
-    let g = globs-both (p .glob) (q .glob) slot l m e in
+    let g = globs-both (p .globals) (q .globals) slot l m e in
     record {
       parts =
           record {
@@ -357,35 +350,35 @@ mixed-both a slot found p q ram r s e b f h z =
             lefts = h .beside .lefts;
             rights = h .beside .rights;
             delays = h .delays;
-            glob = g;
+            globals = g;
           };
       frame =
           ap frameOf
-          (masters-both (echoFrom slot (globTick (p .glob))) (echoMoved k l m) (r .acc .dry) (s .acc .dry) g
+          (masters-both (echoFrom slot (globalsTick (p .globals))) (echoMoved k l m) (r .sums .dry) (s .sums .dry) g
           (ap (λ (x : List ℕ). joined (getD x 0 0) (getD x 1 0)) z ∙ joined-halves l (echo16 k ram 0 (q .taps) (q .left)))
           (ap (λ (x : List ℕ). joined (getD x 2 0) (getD x 3 0)) z ∙ joined-halves m (echo16 k ram 2 (q .taps) (q .right)))
-          (λ i. h .acc i .dry));
+          (λ i. h .sums i .dry));
       row = λ i. h .row i ++ z i;
       left = refl;
       right = rw b;
     }
 
 -- the whole tick, over a row that has the run's lanes outside the set and the echo's
-tick-both : (a : ℕ) (old o : List ℕ) (p q : Parts) (ram : List ℕ) → Sim a p q → Good q → bit (q .glob .flg) 5 ≡ true → SameLanes a old (tickOf everything o q ram .row)
+tick-both : (a : ℕ) (old o : List ℕ) (p q : Parts) (ram : List ℕ) → Sim a p q → Good q → bit (q .globals .flg) 5 ≡ true → SameLanes a old (tickOf everything o q ram .row)
     → Same a ram (tickOf (record { voices = a; echo = false }) old p ram) (tickOf everything o q ram)
 unfolding tickOf voicesTick echoLane pairBytes
 tick-both a old o p q ram h g b f =
-    let c = sharedOf (q .glob) (q .registers) in
-    let d = sharedOf (p .glob) (p .registers) in
+    let c = sharedOf (q .globals) (q .registers) in
+    let d = sharedOf (p .globals) (p .registers) in
     let s = turns (turn 0xFF o c ram) 8 (startOf q) in
-    let slot = echoLane true (globTick (q .glob)) (q .taps) (q .left) (q .right) ram (s .acc .input) (laneAt 8 o) .slot in
-    let n = shared16 (q .glob) (q .registers) in
+    let slot = echoLane true (globalsTick (q .globals)) (q .taps) (q .left) (q .right) ram (s .sums .input) (laneAt 8 o) .slot in
+    let n = shared16 (q .globals) (q .registers) in
     let k : length (s .row) ≡ 32 = row-wide o c ram 8 (startOf q) (omega arith) in
     let y : Abreast a (startOf p) (startOf q) =
-    record { beside = sim-beside a p q h g; waits = h .waits ∙ sym (g .round .fit .waits); delays = h .delays; bytes = h .bytes; acc = refl; row = refl } in
+    record { beside = sim-beside a p q h g; waits = h .waits ∙ sym (g .round .fit .waits); delays = h .delays; bytes = h .bytes; sums = refl; row = refl } in
     let u = turns-abreast a old o c ram (startOf p) (startOf q) n (g .round) y refl 8 (omega arith) (λ j l x. f j (omega arith) (λ _. x) ∙ lane-part j (s .row) slot (omega (arith, k))) in
-    let t = subst (λ (x : Shared). Abreast a (turns (turn a old x ram) 8 (startOf p)) s) (sym (shared-both (p .glob) (q .glob) (p .registers) (q .registers) (h .glob) (h .bytes))) u in
-    mixed-both a (laneAt 8 old) (laneAt 8 o) p q ram (turns (turn a old d ram) 8 (startOf p)) s (h .glob) b (sound-turns 0xFF o c ram n 8 (startOf q) (omega arith) (g .round) .fit) t
+    let t = subst (λ (x : Shared). Abreast a (turns (turn a old x ram) 8 (startOf p)) s) (sym (shared-both (p .globals) (q .globals) (p .registers) (q .registers) (h .globals) (h .bytes))) u in
+    mixed-both a (laneAt 8 old) (laneAt 8 o) p q ram (turns (turn a old d ram) 8 (startOf p)) s (h .globals) b (sound-turns 0xFF o c ram n 8 (startOf q) (omega arith) (g .round) .fit) t
     (f 8 (omega arith) (λ l. absurd (omega arith)) ∙ lane-last 8 (s .row) slot k refl)
 
 -- ---- a log
@@ -401,7 +394,7 @@ ticks-right a ram t u x y s h =
 
 -- beat by beat
 pub right : (a : ℕ) (bs : List Beat) (o old : List ℕ) (p q : Parts) (ram : List ℕ) → length ram ≡ 0x10000 → Small bs → Sim a p q → Good q
-    → Quiet bs (modesIn (q .glob)) → Over a old (tape everything bs o q ram .rows)
+    → Quiet bs (modesIn (q .globals)) → Over a old (tape everything bs o q ram .rows)
     → Right a (tape (record { voices = a; echo = false }) bs old p ram) (tape everything bs o q ram)
 unfolding tape Small Quiet writeParts
 right a [] o old p q ram l m h g k v = record { frames = refl; rows = refl; readings = refl; parts = h }
@@ -427,7 +420,7 @@ right a (ask i ∷ bs) o old p q ram l m h g k v =
 row-36 : (o : List ℕ) (q : Parts) (ram : List ℕ) → length (tickOf everything o q ram .row) ≡ 36
 unfolding tickOf voicesTick echoLane pairBytes
 row-36 o q ram =
-    let c = sharedOf (q .glob) (q .registers) in
+    let c = sharedOf (q .globals) (q .registers) in
     let e = row-wide o c ram 8 (startOf q) (omega arith) in
     length-append (turns (turn 0xFF o c ram) 8 (startOf q) .row) _ ∙ omega (arith, e)
 

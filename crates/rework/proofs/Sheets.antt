@@ -142,7 +142,7 @@ same-sym a p q s =
       taps = sym (s .taps);
       left = sym (s .left);
       right = sym (s .right);
-      glob = sym (s .glob);
+      globals = sym (s .globals);
     }
 
 pub same-trans : (a : ℕ) (p q r : Parts) → SameBut a p q → SameBut a q r → SameBut a p r
@@ -161,5 +161,5 @@ same-trans a p q r s t =
       taps = s .taps ∙ t .taps;
       left = s .left ∙ t .left;
       right = s .right ∙ t .right;
-      glob = s .glob ∙ t .glob;
+      globals = s .globals ∙ t .globals;
     }

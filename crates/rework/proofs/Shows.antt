@@ -10,18 +10,17 @@ use lib.ListN.{getD, set, length, length-set}
 use lib.Seq.{getD-set-same, getD-set-other}
 use Rattle.numbers.specs.Signed.{highZ}
 use Rattle.numbers.specs.Bits.{bit, withBit}
+use Rattle.numbers.proofs.Bits.{bit-here, bit-there}
+use Rattle.numbers.specs.Listed.{turns}
 use Rattle.dsp.specs.Machine.{noVoice, apart}
 use Rattle.dsp.specs.Mix.{outputOf}
-use Rattle.dsp.specs.Registers.{turns}
 use Rattle.dsp.specs.Sheet.{laneBytes, pairBytes}
 use Rattle.dsp.specs.Echo.{echoTick, echoMoved, echoLane}
-use Rattle.dsp.specs.Lane.{putBytes, cellAfter, cellOf, ownCell, turned}
+use Rattle.dsp.specs.Lane.{putBytes, cellAfter, cellOf, ownCell, turned, Shared}
 use Rattle.dsp.specs.Tick.{Round, turn, voicesTick, everything, startOf, sharedOf, tickOf}
-use Rattle.dsp.specs.declared.lane.Shared.{Shared}
 use Rattle.dsp.specs.declared.voice.Voice.{Voice}
 use Rattle.dsp.proofs.Whole.{full}
 use Rattle.rework.specs.Shown.{lanesOf, RowShows}
-use Rattle.rework.proofs.Bits.{bit-here, bit-there}
 
 -- ---- a voice's registers, after ENVX, OUTX and the ENDX bit of voice n were put
 
@@ -67,7 +66,7 @@ lanes-stay n envx out endx bytes vs y l z zero m = refl
 lanes-stay n envx out endx bytes vs y l z (suc k) m =
     let v = getD-set-other vs n k y noVoice (λ e. absurd (omega (arith, m, e))) in
     let b = put-there n envx out endx bytes l z (k * 16 + 8) (λ e. absurd (omega (arith, m, e))) (λ e. absurd (omega (arith, m, e))) (λ e. absurd (omega (arith, l, m, e))) in
-    let x = ap (λ (w : ℕ). bit w k) (put-endx n envx out endx bytes l z) ∙ bit-there (getD bytes 0x7C 0) n k endx l (omega (arith, l, m)) (λ e. absurd (omega (arith, m, e))) in
+    let x = ap (λ (w : ℕ). bit w k) (put-endx n envx out endx bytes l z) ∙ bit-there (getD bytes 0x7C 0) n k endx (λ e. absurd (omega (arith, m, e))) in
     λ i. lanes-stay n envx out endx bytes vs y l z k (omega (arith, m)) i ++ laneBytes (outputOf (v i)) (b i) (x i)
 
 record Lanes (n : ℕ) (r : Round) : Type 0 where
@@ -78,11 +77,11 @@ record Lanes (n : ℕ) (r : Round) : Type 0 where
 lanes-turn : (old : List ℕ) (c : Shared) (ram : List ℕ) (n : ℕ) (r : Round) → n < 8 → Lanes n r → Lanes (suc n) (turn 0xFF old c ram n r)
 unfolding turn turned ownCell cellOf cellAfter lanesOf
 lanes-turn old c ram n r l h =
-    let x = ownCell c ram n (r .acc .prev) (getD (r .voices) n noVoice) (getD (r .delays) n 0) (r .bytes) in
+    let x = ownCell c ram n (r .sums .prev) (getD (r .voices) n noVoice) (getD (r .delays) n 0) (r .bytes) in
     let b = r .bytes in
     let v = getD-set-same (r .voices) n (x .voice) noVoice (omega (arith, l, h .voices)) in
     let e = put-envx n (x .envx) (x .out) (x .endx) b l (h .registers) in
-    let d = ap (λ (w : ℕ). bit w n) (put-endx n (x .envx) (x .out) (x .endx) b l (h .registers)) ∙ bit-here (getD b 0x7C 0) n (x .endx) l in
+    let d = ap (λ (w : ℕ). bit w n) (put-endx n (x .envx) (x .out) (x .endx) b l (h .registers)) ∙ bit-here (getD b 0x7C 0) n (x .endx) in
     let s = lanes-stay n (x .envx) (x .out) (x .endx) b (r .voices) (x .voice) l (h .registers) n (omega arith) in
     rw (full n l)
     (record {
@@ -100,7 +99,7 @@ pub row-shows : RowShows
 unfolding tickOf voicesTick lanesOf echoLane echoTick echoMoved
 row-shows d ram old v =
     let p = apart d in
-    let c = sharedOf (p .glob) (p .registers) in
+    let c = sharedOf (p .globals) (p .registers) in
     let h = lanes-after old c ram 8 (startOf p) (omega arith) (record { registers = v .registers; voices = v .voices; row = refl }) in
-    let g = tickOf everything old p ram .parts .glob in
+    let g = tickOf everything old p ram .parts .globals in
     ap (λ (xs : List ℕ). xs ++ pairBytes (g .«echo_out_l») (g .«echo_out_r»)) (h .row)

@@ -17,19 +17,16 @@ use Rattle.numbers.proofs.Cut.{cutZ-any}
 use Rattle.numbers.proofs.Clamp.{clamp-within}
 use Rattle.numbers.specs.Bits.{bit}
 use Rattle.sound.specs.Sound.{to16, even, joined, levelledZ, firTap, firSum, firOf}
+use Rattle.dsp.specs.Noise.{noiseSample, Noise}
+use Rattle.dsp.specs.With.{withEnvelope}
 use Rattle.dsp.specs.Envelope.{isOff, envelopeTick}
+use Rattle.dsp.specs.Keys.{keyedOff, keyedOn, polledDelay}
+use Rattle.dsp.specs.Interpolation.{tapZ}
+use Rattle.dsp.specs.Voice.{Sounding, Stepped, advanced, resolved, interpolated, idle, shown, sounded, voiceStep, PitchSource}
 use Rattle.dsp.specs.Mix.{scaledOutput}
-use Rattle.dsp.specs.Gauss.{tapZ}
-use Rattle.dsp.specs.Noise.{noiseSample}
-use Rattle.dsp.specs.Voice.{Sounding, Stepped, advanced, resolved, withEnvelope, interpolated, idle, shown, sounded, voiceStep}
-use Rattle.dsp.specs.Lane.{Cell, Waiting, keyedOff, keyedOn, delayOf, waited, noised, polledOf, waitedOf, cellAfter, cellOf, ownCell, shownCell}
+use Rattle.dsp.specs.Lane.{Cell, Waiting, waited, noised, polledOf, waitedOf, cellAfter, cellOf, ownCell, shownCell, Shared}
 use Rattle.dsp.specs.declared.adsr.EnvelopePhase.{EnvelopePhase}
-use Rattle.dsp.specs.declared.adsr.Settings.{Settings}
-use Rattle.dsp.specs.declared.noise.Noise.{Noise}
 use Rattle.dsp.specs.declared.voice.Voice.{Voice}
-use Rattle.dsp.specs.declared.play.Source.{Source}
-use Rattle.dsp.specs.declared.play.Play.{Play}
-use Rattle.dsp.specs.declared.lane.Shared.{Shared}
 use Rattle.dsp.proofs.Outputs.{level-law}
 
 abbrev pub Is16 : ℤ → Type 0
@@ -105,37 +102,34 @@ noise16 n = cut16 (pos (2 * n .lfsr))
 
 -- ---- a voice's sample
 
-abbrev Sample16 : Play → Type 0
-Sample16 p = Is16 (p .«current_sample»)
+abbrev Sample16 : Voice → Type 0
+Sample16 v = Is16 (v .«current_sample»)
 
-polled16 : (c : Shared) (j : ℕ) (v : Voice) (endx : Bool) → Is16 (v .«current_sample») → Sample16 (polledOf c j v endx)
+polled16 : (c : Shared) (j : ℕ) (v : Voice) (endx : Bool) → Sample16 v → Sample16 (polledOf c j v endx .voice)
 unfolding polledOf keyedOn keyedOff
 polled16 c j v endx h = chosen Sample16 (bit (c .kon) j) refl (chosen Sample16 (bit (c .koff) j && not (isOff (v .adsr .«envelope_phase»))) h h)
 
-interpolated16 : (p : Play) → Sample16 (interpolated p)
+interpolated16 : (v : Voice) → Sample16 (interpolated v)
 unfolding interpolated
-interpolated16 p =
-    let i = p .«pitch_counter» / 16 % 256 in
-    let h = p .history in
+interpolated16 v =
+    let i = v .«pitch_counter» / 16 % 256 in
+    let h = v .history in
     clamped16 (to16 (tapZ (255 - i) (getD h 0 (pos 0)) +ℤ tapZ (511 - i) (getD h 1 (pos 0)) +ℤ tapZ (i + 256) (getD h 2 (pos 0))) +ℤ tapZ i (getD h 3 (pos 0)))
 
 -- an idle voice keeps its sample, any other's is interpolated
-sounded16 : (ram : List ℕ) (dir srcn pitch : ℕ) (x : Source) (envx : ℕ) (s : Sounding) → Sample16 (s .play) → Sample16 (sounded ram dir srcn pitch x envx s .play)
-unfolding sounded
-sounded16 ram dir srcn pitch x envx s h =
-    let t = advanced ram dir srcn pitch x (resolved ram s) in
-    chosen (λ (t : Stepped). Sample16 (t .play)) (idle (s .play)) {x = record { play = s .play; samples = s .samples; envx = envx }} {y = shown t} h (interpolated16 (t .play))
+step16 : (ram : List ℕ) (dir srcn : ℕ) (x : PitchSource) (envx : ℕ) (s : Sounding) → Sample16 (s .voice) → Sample16 (voiceStep ram dir srcn x envx s .sounding .voice)
+unfolding voiceStep sounded
+step16 ram dir srcn x envx s h =
+    let e : Sounding = record { voice = withEnvelope (s .voice) (envelopeTick (s .voice .adsr)); endx = s .endx } in
+    let t = advanced ram dir srcn x (resolved ram e) in
+    chosen (λ (t : Stepped). Sample16 (t .sounding .voice)) (idle (e .voice)) {x = record { sounding = e; envx = envx }} {y = shown t} h (interpolated16 (t .voice))
 
-step16 : (ram : List ℕ) (dir srcn : ℕ) (f : Settings) (pitch : ℕ) (x : Source) (envx : ℕ) (s : Sounding) → Sample16 (s .play) → Sample16 (voiceStep ram dir srcn f pitch x envx s .play)
-unfolding voiceStep
-step16 ram dir srcn f pitch x envx s h = sounded16 ram dir srcn pitch x envx (record { play = withEnvelope (s .play) (envelopeTick f (s .play .envelope)); samples = s .samples }) h
-
-waited16 : (c : Shared) (ram : List ℕ) (j : ℕ) (prev : ℤ) (v : Voice) (delay srcn envx : ℕ) (endx : Bool) (samples : List ℤ) → Is16 (v .«current_sample»)
-    → Sample16 (waitedOf c ram j prev v delay srcn envx endx samples .play)
+waited16 : (c : Shared) (ram : List ℕ) (j : ℕ) (prev : ℤ) (v : Voice) (delay srcn envx : ℕ) (endx : Bool) → Sample16 v
+    → Sample16 (waitedOf c ram j prev v delay srcn envx endx .sounding .voice)
 unfolding waitedOf waited
-waited16 c ram j prev v delay srcn envx endx samples h =
+waited16 c ram j prev v delay srcn envx endx h =
     let p = polled16 c j v endx h in
-    chosen (λ (w : Waiting). Sample16 (w .play)) (delayOf (bit (c .kon) j) delay =? 0) (step16 ram (c .dir) srcn _ (v .pitch) _ envx _ p) p
+    chosen (λ (w : Waiting). Sample16 (w .sounding .voice)) (polledDelay (bit (c .kon) j) delay =? 0) (step16 ram (c .dir) srcn _ envx _ p) p
 
 -- the sample that a tick leaves: worked, or shown from the sheet
 pub sample16 : (worked : Bool) (c : Shared) (ram : List ℕ) (j : ℕ) (prev : ℤ) (v : Voice) (delay : ℕ) (bytes slot : List ℕ) → Is16 (c .noise) → Is16 (v .«current_sample»)
@@ -143,5 +137,5 @@ pub sample16 : (worked : Bool) (c : Shared) (ram : List ℕ) (j : ℕ) (prev : �
 unfolding ownCell cellOf cellAfter noised shownCell
 sample16 worked c ram j prev v delay bytes slot n h =
     chosen (λ (x : Cell). Is16 (x .voice .«current_sample»)) worked
-    (chosen Is16 (bit (c .non) j) n (waited16 c ram j prev v delay _ _ _ (v .brr .«sample_buffer») h))
+    (chosen Is16 (bit (c .non) j) n (waited16 c ram j prev v delay _ _ _ h))
     h

@@ -8,18 +8,17 @@ use lib.ListN.{getD, drop, length}
 use Rattle.numbers.specs.Choice.{if_then_else_}
 use Rattle.numbers.proofs.Choice.{chosen}
 use Rattle.numbers.specs.Bits.{bit}
-use Rattle.dsp.specs.Machine.{noVoice, Parts}
+use Rattle.dsp.specs.Machine.{noVoice, Parts, Globals}
+use Rattle.dsp.specs.With.{withEcho}
 use Rattle.dsp.specs.Registers.{writeParts}
 use Rattle.dsp.specs.Sheet.{laneAt}
-use Rattle.dsp.specs.Echo.{withEcho, EchoLane, echoMoved, echoTick, echoFrom, echoLane}
-use Rattle.dsp.specs.Tick.{Ticked, globTick, tickOf}
-use Rattle.dsp.specs.declared.registers.Glob.{Glob}
+use Rattle.dsp.specs.Echo.{EchoLane, echoMoved, echoTick, echoFrom, echoLane}
+use Rattle.dsp.specs.Tick.{Ticked, globalsTick, tickOf}
 use Rattle.dsp.specs.declared.tick.Work.{Work}
 use Rattle.log.specs.declared.Record.{Record}
 use Rattle.log.specs.declared.Record.the-variants.{Write, Ticks, Reading}
-use Rattle.rework.specs.declared.modes.Modes.{Modes}
 use Rattle.rework.specs.Alike.{named}
-use Rattle.rework.specs.Members.{modesAfter, joinedBy}
+use Rattle.rework.specs.Members.{Fields, modesAfter, joinedBy}
 use Rattle.rework.specs.Differ.{Outside, SameBut}
 
 -- ---- beats
@@ -55,18 +54,18 @@ keep s (put i x ∷ bs) =
 keep s (tick ∷ bs) = tick ∷ keep s bs
 keep s (ask r ∷ bs) = ask r ∷ keep s bs
 
-abbrev pub modesIn : Glob → Modes
+abbrev pub modesIn : Globals → Fields
 modesIn g = record { flg = g .flg; pmon = g .pmon }
 
 -- FLG bit 5 is set at every tick
-unfoldable pub Quiet : List Beat → Modes → Type 0
+unfoldable pub Quiet : List Beat → Fields → Type 0
 Quiet [] m = Unit {0}
 Quiet (put i x ∷ bs) m = Quiet bs (modesAfter i x m)
 Quiet (tick ∷ bs) m = (bit (m .flg) 5 ≡ true) × Quiet bs m
 Quiet (ask r ∷ bs) m = Quiet bs m
 
 -- the set, tick by tick
-unfoldable pub joins : List Beat → Modes → ℕ → ℕ
+unfoldable pub joins : List Beat → Fields → ℕ → ℕ
 joins [] m a = a
 joins (put i x ∷ bs) m a = joins bs (modesAfter i x m) a
 joins (tick ∷ bs) m a = joins bs m (joinedBy (m .pmon) a)
@@ -96,9 +95,9 @@ tape w (tick ∷ bs) old p ram =
 tape w (ask r ∷ bs) old p ram = behindReading (getD (p .registers) r 0) (tape w bs old p ram)
 
 -- a tick changes neither of the two fields that decide
-pub modes-tick : (w : Work) (old : List ℕ) (p : Parts) (ram : List ℕ) → modesIn (tickOf w old p ram .parts .glob) ≡ modesIn (p .glob)
-unfolding tickOf echoLane echoTick echoMoved echoFrom globTick
-modes-tick w old p ram = chosen (λ (e : EchoLane). modesIn (e .echo .glob) ≡ modesIn (p .glob)) (w .echo) refl refl
+pub modes-tick : (w : Work) (old : List ℕ) (p : Parts) (ram : List ℕ) → modesIn (tickOf w old p ram .parts .globals) ≡ modesIn (p .globals)
+unfolding tickOf echoLane echoTick echoMoved echoFrom globalsTick
+modes-tick w old p ram = chosen (λ (e : EchoLane). modesIn (e .echo .globals) ≡ modesIn (p .globals)) (w .echo) refl refl
 
 -- ---- a run and the run of its log without the named voices' own writes
 
@@ -119,7 +118,7 @@ pub record Kept (a : ℕ) (ram : List ℕ) (x y : Tape) : Type 0 where
 -- ---- a rework and the run of the same log
 
 -- the numbers without the echo's, which a rework does not work
-abbrev pub bare : Glob → Glob
+abbrev pub bare : Globals → Globals
 bare g = withEcho g 0 0 (pos 0) (pos 0)
 
 pub record Sim (a : ℕ) (p q : Parts) : Type 0 where
@@ -130,7 +129,7 @@ pub record Sim (a : ℕ) (p q : Parts) : Type 0 where
   pub lefts : (j : ℕ) → j < 8 → getD (p .voices) j noVoice .«left_vol» ≡ getD (q .voices) j noVoice .«left_vol»
   pub rights : (j : ℕ) → j < 8 → getD (p .voices) j noVoice .«right_vol» ≡ getD (q .voices) j noVoice .«right_vol»
   pub delays : (j : ℕ) → j < 8 → bit a j ≡ true → getD (p .delays) j 0 ≡ getD (q .delays) j 0
-  pub glob : bare (p .glob) ≡ bare (q .glob)
+  pub globals : bare (p .globals) ≡ bare (q .globals)
 
 -- an old sheet that agrees with rows outside the set
 pub data Over (a : ℕ) : List ℕ → List (List ℕ) → Type 0 where

@@ -2,7 +2,8 @@
 use mathlib.Core.List.{List, [], _∷_, _++_, flatten, append-assoc, append-nil}
 use mathlib.Core.Path.{_≡_, refl, sym, ap, subst, _∙_}
 use Prim.Native.Nat.{ℕ, zero, suc}
-use Rattle.dsp.specs.Tick.{Ticked, tickOf, Bench, onward, benchTick, benchWrite, ticksOf}
+use Rattle.dsp.specs.Tick.{Ticked, tickOf}
+use Rattle.dsp.specs.Ticks.{Bench, onward, benchTick, benchWrite, ticksOf}
 use Rattle.dsp.specs.declared.tick.Work.{Work}
 use Rattle.log.specs.declared.Record.{Record}
 use Rattle.log.specs.declared.Record.the-variants.{Write, Ticks, Reading}

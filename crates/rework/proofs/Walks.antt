@@ -10,8 +10,7 @@ use Rattle.log.specs.declared.Record.{Record}
 use Rattle.log.specs.declared.Next.{Next}
 use Rattle.log.specs.declared.Next.the-variants.{On, Off}
 use Rattle.log.proofs.Places.{opened-at, closed-at}
-use Rattle.rework.specs.declared.modes.Modes.{Modes}
-use Rattle.rework.specs.Members.{modesBy, quietIn, quiet, joinedBy, joinedOver, joinedIn, members}
+use Rattle.rework.specs.Members.{Fields, modesBy, quietIn, quiet, joinedBy, joinedOver, joinedIn, members}
 use Rattle.rework.proofs.Bits.{joined-twice}
 
 -- no tick changes PMON, so that ticks join what the first of them does
@@ -29,7 +28,7 @@ pub and-true : (a : Bool) → (a && true) ≡ a
 and-true true = refl
 and-true false = refl
 
-module _ (log : List ℕ) (at : ℕ) {n : Next} (is : n ≡ readAt log at) (m : Modes) where
+module _ (log : List ℕ) (at : ℕ) {n : Next} (is : n ≡ readAt log at) (m : Fields) where
   pub quiet-on : {r : Record} {behind : ℕ} (q : Bool) → n ≡ On r behind → (q && quiet (recordsFrom log at) m) ≡ ((q && quietIn r m) && quiet (recordsFrom log behind) (modesBy r m))
   unfolding quiet
   quiet-on {r} {behind} q e = ap (λ (rs : List Record). q && quiet rs m) (opened-at log at behind r (sym is ∙ e)) ∙ and-assoc q (quietIn r m) (quiet (recordsFrom log behind) (modesBy r m))

@@ -9,11 +9,12 @@ use Prim.Native.Nat.{ℕ, zero, suc, _*_, _<_}
 use lib.IntN.{pos}
 use lib.ListN.{getD, length, drop}
 use Rattle.numbers.specs.Choice.{if_then_else_, _<?_, _=?_}
-use Rattle.dsp.specs.Machine.{newDsp, apart}
+use Rattle.dsp.specs.Machine.{apart}
+use Rattle.dsp.specs.PowerOn.{newDsp}
 use Rattle.dsp.specs.Registers.{Written, writeOf}
 use Rattle.dsp.specs.Mix.{Rendered, renderOf}
 use Rattle.dsp.specs.Sheet.{pairBytes, laneAt}
-use Rattle.dsp.specs.Tick.{After, refused, stepOf, Drove, undriven, driveOf}
+use Rattle.dsp.specs.Ticks.{After, refused, stepOf, Drove, undriven, driveOf}
 use Rattle.dsp.specs.declared.registers.Dsp.{Dsp}
 use Rattle.dsp.specs.declared.tick.Work.{Work}
 use Rattle.log.specs.Log.{readAt, decode}

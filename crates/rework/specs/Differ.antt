@@ -25,7 +25,7 @@ pub record SameBut (a : ℕ) (p q : Parts) : Type 0 where
   pub taps : p .taps ≡ q .taps
   pub left : p .left ≡ q .left
   pub right : p .right ≡ q .right
-  pub glob : p .glob ≡ q .glob
+  pub globals : p .globals ≡ q .globals
 
 -- what the type of a record says of these parts: lengths, bytes, and samples of 16 bits
 pub record Value (p : Parts) : Type 0 where

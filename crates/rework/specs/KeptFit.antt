@@ -3,10 +3,10 @@ use mathlib.Core.Bool.{true}
 use mathlib.Core.List.{List}
 use mathlib.Core.Path.{_≡_}
 use Prim.Native.Nat.{ℕ, _<_}
-use Rattle.dsp.specs.Machine.{newDsp}
+use Rattle.dsp.specs.PowerOn.{newDsp}
 use Rattle.dsp.specs.Fit.{fit}
 use Rattle.dsp.specs.Registers.{writeOf}
-use Rattle.dsp.specs.Tick.{stepOf, driveOf}
+use Rattle.dsp.specs.Ticks.{stepOf, driveOf}
 use Rattle.dsp.specs.declared.registers.Dsp.{Dsp}
 use Rattle.dsp.specs.declared.tick.Work.{Work}
 use Rattle.sitting.specs.Run.{runWith}

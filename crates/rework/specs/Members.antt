@@ -4,33 +4,37 @@ use mathlib.Core.List.{List, [], _∷_}
 use Prim.Native.Nat.{ℕ, zero, suc, _+_, _*_, _/_}
 use Rattle.numbers.specs.Choice.{if_then_else_, _=?_}
 use Rattle.numbers.specs.Bits.{bit, withBit}
-use Rattle.dsp.specs.Registers.{at, turns}
+use Rattle.numbers.specs.Listed.{turns}
+use Rattle.dsp.specs.Registers.{at}
 use Rattle.dsp.specs.declared.registers.Dsp.{Dsp}
 use Rattle.log.specs.declared.Record.{Record}
 use Rattle.log.specs.declared.Record.the-variants.{Write, Ticks, Reading}
-use Rattle.rework.specs.declared.modes.Modes.{Modes}
 
 -- ---- the two fields that decide, as the writes leave them; a tick changes neither
 
-abbrev pub modesOf : Dsp → Modes
+pub record Fields : Type 0 where
+  pub flg : ℕ
+  pub pmon : ℕ
+
+abbrev pub modesOf : Dsp → Fields
 modesOf d = record { flg = d .flg; pmon = d .pmon }
 
-abbrev pub modesAfter : ℕ → ℕ → Modes → Modes
+abbrev pub modesAfter : ℕ → ℕ → Fields → Fields
 modesAfter r x m = record { flg = at r 0x6C x (m .flg); pmon = at r 0x2D (x / 2 * 2) (m .pmon) }
 
-abbrev pub modesBy : Record → Modes → Modes
+abbrev pub modesBy : Record → Fields → Fields
 modesBy (Write r x) m = modesAfter r x m
 modesBy (Ticks n) m = m
 modesBy (Reading r) m = m
 
 -- ---- FLG bit 5 is set at every tick
 
-abbrev pub quietIn : Record → Modes → Bool
+abbrev pub quietIn : Record → Fields → Bool
 quietIn (Write r x) m = true
 quietIn (Ticks n) m = (n =? 0) || bit (m .flg) 5
 quietIn (Reading r) m = true
 
-unfoldable pub quiet : List Record → Modes → Bool
+unfoldable pub quiet : List Record → Fields → Bool
 quiet [] m = true
 quiet (r ∷ rs) m = quietIn r m && quiet rs (modesBy r m)
 
@@ -49,21 +53,21 @@ unfoldable pub joinedOver : ℕ → ℕ → ℕ → ℕ
 joinedOver zero pmon a = a
 joinedOver (suc n) pmon a = joinedBy pmon (joinedOver n pmon a)
 
-abbrev pub joinedIn : Record → Modes → ℕ → ℕ
+abbrev pub joinedIn : Record → Fields → ℕ → ℕ
 joinedIn (Write r x) m a = a
 joinedIn (Ticks n) m a = joinedOver n (m .pmon) a
 joinedIn (Reading r) m a = a
 
-unfoldable pub members : List Record → Modes → ℕ → ℕ
+unfoldable pub members : List Record → Fields → ℕ → ℕ
 members [] m a = a
 members (r ∷ rs) m a = members rs (modesBy r m) (joinedIn r m a)
 
 -- ---- how many they are
 
-abbrev pub counted : ℕ → ℕ → ℕ → ℕ
-counted a j n =
+abbrev pub countedIn : ℕ → ℕ → ℕ → ℕ
+countedIn a j n =
     if bit a j then n + 1 else
     n
 
 unfoldable pub voicesIn : ℕ → ℕ
-voicesIn a = turns (counted a) 8 0
+voicesIn a = turns (countedIn a) 8 0

@@ -10,9 +10,10 @@ use lib.IntN.{ℤ, pos, _+ℤ_}
 use lib.ListN.{getD, take, drop, replicate}
 use Rattle.numbers.specs.Signed.{clamp16Z}
 use Rattle.sound.specs.Sound.{volumed}
-use Rattle.dsp.specs.Machine.{newAdsr, newBrr, noVoice, newVoice, newDsp, globOf, together}
+use Rattle.dsp.specs.Machine.{noVoice, globalsOf, together}
+use Rattle.dsp.specs.PowerOn.{newAdsr, newBrr, newVoice, newDsp}
 use Rattle.dsp.specs.Mix.{outputOf, masterOf, renderOf}
-use Rattle.dsp.specs.Tick.{refused, stepOf, undriven}
+use Rattle.dsp.specs.Ticks.{refused, stepOf, undriven}
 use Rattle.dsp.specs.declared.registers.Dsp.{Dsp}
 use Rattle.dsp.specs.declared.voice.Voice.{Voice}
 use Rattle.log.specs.Measure.{unmeasured}
@@ -85,7 +86,7 @@ unclamped vs zero = pos 0
 unclamped vs (suc n) = unclamped vs n +ℤ volumed (outputOf (getD vs n noVoice)) (getD vs n noVoice .«left_vol»)
 
 abbrev clampedOnce : Dsp → ℤ
-clampedOnce d = masterOf (globOf d) (record { l = clamp16Z (unclamped (d .voices) 8); r = pos 0 }) .l
+clampedOnce d = masterOf (globalsOf d) (record { l = clamp16Z (unclamped (d .voices) 8); r = pos 0 }) .l
 
 -- ---- a voice in phase Off whose key_on is set
 
@@ -104,8 +105,8 @@ offButKeyed =
       brr = newBrr;
     }
 
-abbrev withVoice : Voice → Dsp
-withVoice v =
+abbrev powerOnWith : Voice → Dsp
+powerOnWith v =
     together
     (record {
       registers = newDsp .registers;
@@ -114,7 +115,7 @@ withVoice v =
       taps = newDsp .«fir_coeff»;
       left = newDsp .«fir_history_l»;
       right = newDsp .«fir_history_r»;
-      glob = globOf newDsp;
+      globals = globalsOf newDsp;
     })
 
 -- ---- an idle voice after RESET
@@ -160,6 +161,6 @@ pub record NotThrough : Type 0 where
   -- "Clamping the mix once at the end"
   pub clampsEach : renderOf loud .left ≢ clampedOnce loud
   -- "Stopping a voice whenever its phase is Off"
-  pub keepsOn : getD (stepOf (withVoice offButKeyed) ram .dsp .voices) 0 noVoice ≢ offButKeyed
+  pub keepsOn : getD (stepOf (powerOnWith offButKeyed) ram .dsp .voices) 0 noVoice ≢ offButKeyed
   -- "Refreshing ENVX of an idle voice after RESET": it would read 0
   pub untouched : afterReset .readings ≢ 0 ∷ []

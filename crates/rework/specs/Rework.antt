@@ -7,7 +7,8 @@ use lib.ListN.{getD, length}
 use Rattle.numbers.specs.Choice.{if_then_else_, _<?_, _=?_}
 use Rattle.numbers.specs.Bits.{bit}
 use Rattle.numbers.specs.Listed.{listed}
-use Rattle.dsp.specs.Machine.{noVoice, newDsp, Parts, apart, together}
+use Rattle.dsp.specs.Machine.{noVoice, Parts, apart, together}
+use Rattle.dsp.specs.PowerOn.{newDsp}
 use Rattle.dsp.specs.Fit.{fit}
 use Rattle.dsp.specs.declared.registers.Dsp.{Dsp}
 use Rattle.dsp.specs.declared.tick.Work.{Work}
@@ -37,8 +38,8 @@ endByte a i new old =
 unfoldable pub pickedBytes : ℕ → List ℕ → List ℕ → List ℕ
 pickedBytes a new old = listed (λ i. endByte a i (getD new i 0) (getD old i 0)) 128
 
-abbrev pub endOf : ℕ → Parts → Parts → Parts
-endOf a new old =
+abbrev pub endParts : ℕ → Parts → Parts → Parts
+endParts a new old =
     record {
       registers = pickedBytes a (new .registers) (old .registers);
       voices = picked noVoice a (new .voices) (old .voices);
@@ -46,7 +47,7 @@ endOf a new old =
       taps = old .taps;
       left = old .left;
       right = old .right;
-      glob = old .glob;
+      globals = old .globals;
     }
 
 -- ---- the refusals but for 10, which is the run's own
@@ -91,7 +92,7 @@ reworked a start end o =
     if o .refusal =? 0 then
     record {
       refusal = 0;
-      dsp = together (endOf a (apart (o .dsp)) (apart end));
+      dsp = together (endParts a (apart (o .dsp)) (apart end));
       members = a;
       count = voicesIn a;
       pcm = o .pcm;

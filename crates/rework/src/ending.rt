@@ -4,7 +4,7 @@ ghost use Prim.Native.Nat.{_<_};
 ghost use lib.ListN.{length};
 ghost use Rattle.numbers.specs.Choice.{if_then_else_};
 ghost use Rattle.dsp.specs.Machine.{noVoice, apart, together};
-ghost use Rattle.rework.specs.Rework.{picked, endByte, pickedBytes, endOf};
+ghost use Rattle.rework.specs.Rework.{picked, endByte, pickedBytes, endParts};
 use dsp::Dsp;
 use dsp::Voice;
 use numbers::bit;
@@ -74,7 +74,7 @@ fn pick_bytes(set: u8, new: &[u8], bytes: &mut [u8])
 }
 
 pub(crate) fn end_of(set: u8, new: Dsp, old: Dsp) -> Dsp
-    ensures { λ r. ⌜ r ≡ together (endOf set (apart new) (apart old)) ⌝ }
+    ensures { λ r. ⌜ r ≡ together (endParts set (apart new) (apart old)) ⌝ }
 {
     let mut d = old;
     let from = new.registers;

@@ -3,7 +3,7 @@ ghost use mathlib.Core.Path.{_≡_};
 ghost use mathlib.Core.Bool.{_&&_};
 ghost use Prim.Native.Nat.{_<_};
 ghost use Rattle.log.specs.Log.{decode};
-ghost use Rattle.rework.specs.Members.{modesBy, quietIn, quiet, joinAfter, joinedBy, joinedOver, joinedIn, members};
+ghost use Rattle.rework.specs.Members.{Fields, modesBy, quietIn, quiet, joinAfter, joinedBy, joinedOver, joinedIn, members};
 use crate::modes::Modes;
 use log::Next;
 use log::Record;
@@ -55,7 +55,7 @@ fn joined_over(count: u16, pmon: u8, set: u8) -> u8
 
 impl Walked {
     fn past(self, found: Record) -> Self
-        ensures { λ r. ⌜ (r .modes ≡ modesBy found (self .modes)) × (r .quiet ≡ (self .quiet && quietIn found (self .modes))) × (r .set ≡ joinedIn found (self .modes) (self .set)) ⌝ }
+        ensures { λ r. ⌜ (_≡_ {A = Fields} (record { flg = r .modes .flg; pmon = r .modes .pmon }) (modesBy found (record { flg = self .modes .flg; pmon = self .modes .pmon }))) × (r .quiet ≡ (self .quiet && quietIn found (record { flg = self .modes .flg; pmon = self .modes .pmon }))) × (r .set ≡ joinedIn found (record { flg = self .modes .flg; pmon = self .modes .pmon }) (self .set)) ⌝ }
     {
         let m = self.modes;
         match found {
@@ -75,7 +75,7 @@ impl Walked {
 }
 
 pub(crate) fn walk(named: u8, start: Modes, log: &[u8]) -> Walked
-    ensures { λ r. ⌜ (r .quiet ≡ quiet (decode (now (log .entry)) .records) start) × (r .set ≡ members (decode (now (log .entry)) .records) start named) ⌝ }
+    ensures { λ r. ⌜ (r .quiet ≡ quiet (decode (now (log .entry)) .records) (record { flg = start .flg; pmon = start .pmon })) × (r .set ≡ members (decode (now (log .entry)) .records) (record { flg = start .flg; pmon = start .pmon }) named) ⌝ }
 {
     let mut w = Walked {
         modes: start,

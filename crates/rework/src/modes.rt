@@ -1,6 +1,6 @@
 // The two fields that decide what a rework may do and must work, as the log's writes leave them.
 ghost use mathlib.Core.Path.{_≡_};
-ghost use Rattle.rework.specs.Members.{modesAfter};
+ghost use Rattle.rework.specs.Members.{Fields, modesAfter};
 
 pub struct Modes {
     pub flg: u8,
@@ -9,7 +9,7 @@ pub struct Modes {
 
 impl Modes {
     pub(crate) fn after(self, register: u8, value: u8) -> Self
-        ensures { λ r. ⌜ r ≡ modesAfter register value self ⌝ }
+        ensures { λ r. ⌜ _≡_ {A = Fields} (record { flg = r .flg; pmon = r .pmon }) (modesAfter register value (record { flg = self .flg; pmon = self .pmon })) ⌝ }
     {
         if register == 0x6C {
             return Self {

@@ -2,7 +2,7 @@
 ghost use mathlib.Core.Path.{_≡_};
 ghost use lib.ListN.{length};
 ghost use Rattle.numbers.specs.Choice.{if_then_else_, _=?_};
-ghost use Rattle.rework.specs.Members.{modesOf};
+ghost use Rattle.rework.specs.Members.{Fields, modesOf};
 ghost use Rattle.rework.specs.Rework.{refusalOf, setOf, Left, reworkOf, reworkNewOf};
 use crate::ending::end_of;
 use crate::joining::walk;
@@ -52,7 +52,7 @@ fn unchecked(refusal: u8) -> Verdict
 }
 
 fn modes_of(start: Dsp) -> Modes
-    ensures { λ r. ⌜ r ≡ modesOf start ⌝ }
+    ensures { λ r. ⌜ _≡_ {A = Fields} (record { flg = r .flg; pmon = r .pmon }) (modesOf start) ⌝ }
 {
     Modes {
         flg: start.flg,

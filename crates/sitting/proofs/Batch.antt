@@ -8,7 +8,7 @@ use borrow.Rule.Slice.PartMut.{putMid, midOf, mid-len, post-is}
 use Rattle.numbers.proofs.Parts.{Written, written-to, done-is, rest-is, part-written}
 use Rattle.dsp.specs.Machine.{apart}
 use Rattle.dsp.specs.Fit.{Fit}
-use Rattle.dsp.specs.Tick.{ticksOf, Drove, driveOf}
+use Rattle.dsp.specs.Ticks.{ticksOf, Drove, driveOf}
 use Rattle.dsp.specs.declared.registers.Dsp.{Dsp}
 use Rattle.dsp.specs.declared.tick.Work.{Work}
 use Rattle.dsp.proofs.Batches.{ticks-batch, driven}

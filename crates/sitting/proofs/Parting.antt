@@ -9,7 +9,8 @@ use lib.ListN.{length, take, drop}
 use lib.Seq.{length-take-le}
 use borrow.Author.Tests.{eq-eqb, ne-eqb, lt-ltb, le-ltb}
 use Rattle.dsp.specs.Fit.{Fit, fit}
-use Rattle.dsp.specs.Tick.{everything, benchOf, Drove, driveOf}
+use Rattle.dsp.specs.Tick.{everything}
+use Rattle.dsp.specs.Ticks.{benchOf, Drove, driveOf}
 use Rattle.dsp.specs.declared.registers.Dsp.{Dsp}
 use Rattle.dsp.specs.declared.tick.Work.{Work}
 use Rattle.dsp.proofs.Batches.{driven}

@@ -7,10 +7,10 @@ use native.Mathlib.Omega.{arith}
 use native.Mathlib.Nat.{add-zero}
 use lib.ListN.{length, getD, take, drop-of-length-le}
 use lib.Seq.{take-all}
-use Rattle.dsp.specs.Fit.{Fit}
 use Rattle.dsp.specs.Machine.{apart}
+use Rattle.dsp.specs.Fit.{Fit}
 use Rattle.dsp.specs.Registers.{writeAt}
-use Rattle.dsp.specs.Tick.{ticksOf}
+use Rattle.dsp.specs.Ticks.{ticksOf}
 use Rattle.dsp.specs.declared.registers.Dsp.{Dsp}
 use Rattle.dsp.specs.declared.tick.Work.{Work}
 use Rattle.dsp.proofs.Fits.{fit-kept-write}

@@ -5,7 +5,8 @@ use mathlib.Core.Path.{_≡_, refl, ap, _∙_}
 use Prim.Native.Nat.{ℕ, zero, suc, _*_}
 use lib.ListN.{length}
 use Rattle.numbers.specs.Choice.{_=?_}
-use Rattle.dsp.specs.Tick.{everything, Bench, onward, benchTick, ticksOf}
+use Rattle.dsp.specs.Tick.{everything}
+use Rattle.dsp.specs.Ticks.{Bench, onward, benchTick, ticksOf}
 use Rattle.dsp.proofs.Tests.{eq, _and_}
 use Rattle.dsp.proofs.Whole.{tick-whole}
 use Rattle.log.specs.declared.Record.{Record}

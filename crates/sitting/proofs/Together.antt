@@ -17,7 +17,8 @@ use Rattle.dsp.specs.Machine.{together}
 use Rattle.dsp.specs.Fit.{fit}
 use Rattle.dsp.specs.Registers.{writeAt}
 use Rattle.dsp.specs.Sheet.{pairBytes}
-use Rattle.dsp.specs.Tick.{everything, tickOf, Bench, benchOf, benchTick, ticksOf}
+use Rattle.dsp.specs.Tick.{everything, tickOf}
+use Rattle.dsp.specs.Ticks.{Bench, benchOf, benchTick, ticksOf}
 use Rattle.dsp.specs.declared.registers.Dsp.{Dsp}
 use Rattle.dsp.specs.declared.tick.Work.{Work}
 use Rattle.log.specs.Log.{readAt, decode, recordsFrom}

@@ -11,7 +11,8 @@ use Rattle.numbers.proofs.Choice.{tested, chosen}
 use Rattle.dsp.specs.Machine.{together}
 use Rattle.dsp.specs.Fit.{fit}
 use Rattle.dsp.specs.Registers.{writeAt}
-use Rattle.dsp.specs.Tick.{everything, Bench, benchOf, ticksOf}
+use Rattle.dsp.specs.Tick.{everything}
+use Rattle.dsp.specs.Ticks.{Bench, benchOf, ticksOf}
 use Rattle.dsp.specs.declared.registers.Dsp.{Dsp}
 use Rattle.dsp.proofs.Fits.{facts-fit, fit-facts}
 use Rattle.dsp.proofs.Ticks.{BenchFit, bench-fit, fit-bench, fit-kept-ticks, fit-kept-bench-write}
@@ -42,7 +43,7 @@ pub reached-first : (log : List ℕ) (d : Dsp) (ram : List ℕ) → BenchFit (be
 reached-first log d ram f = record { ticks = 0; readings = 0; here = here-first log; fit = f }
 
 again : (b : Bench) → BenchFit b → BenchFit (benchOf (together (b .parts)) (b .ram) [])
-again b f = record { ram = f .ram; round = f .round; glob = f .glob }
+again b f = record { ram = f .ram; round = f .round; globals = f .globals }
 
 module _ (log : List ℕ) (m : Measured) (t : Taken log m) (bytes : (i : ℕ) → getD log i 0 < 256) (d : Dsp) (at : ℕ) (ram pcm : List ℕ) (r : Reached log d at ram) where
   abbrev At : Next → Parted

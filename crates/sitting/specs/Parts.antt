@@ -8,7 +8,8 @@ use Rattle.numbers.specs.Unsigned.{least}
 use Rattle.dsp.specs.Machine.{together}
 use Rattle.dsp.specs.Fit.{fit}
 use Rattle.dsp.specs.Registers.{writeAt}
-use Rattle.dsp.specs.Tick.{everything, Bench, benchOf, ticksOf}
+use Rattle.dsp.specs.Tick.{everything}
+use Rattle.dsp.specs.Ticks.{Bench, benchOf, ticksOf}
 use Rattle.dsp.specs.declared.registers.Dsp.{Dsp}
 use Rattle.log.specs.Log.{readAt, recordsFrom}
 use Rattle.log.specs.Measure.{measureOf}

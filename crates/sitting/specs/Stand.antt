@@ -5,7 +5,7 @@ use Prim.Native.Nat.{ℕ, _*_}
 use mathlib.Core.Path.{_≡_}
 use lib.ListN.{length, take, drop}
 use Rattle.dsp.specs.Machine.{apart}
-use Rattle.dsp.specs.Tick.{Bench}
+use Rattle.dsp.specs.Ticks.{Bench}
 use Rattle.dsp.specs.declared.registers.Dsp.{Dsp}
 use Rattle.log.specs.Log.{decode}
 use Rattle.log.specs.Measure.{totalOf}

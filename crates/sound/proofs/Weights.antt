@@ -1,6 +1,6 @@
 -- The interpolation table: that it never decreases and stays within 0 to 1833 is computed once, over the whole table,
 -- and carried from there to each index.
-use mathlib.Core.Path.{_≡_, ap}
+use mathlib.Core.Path.{_≡_, refl, ap}
 use mathlib.Core.List.{List}
 use Prim.Native.Nat.{ℕ, zero, suc, _+_, _-_, _<_}
 use native.Mathlib.Omega.{arith}
@@ -8,16 +8,18 @@ use lib.IntN.{ℤ, pos}
 use lib.ListN.{getD}
 use lib.Signed.{leZ, _≤ℤ_, leZ-yes, ≤ℤ-refl}
 use Rattle.numbers.proofs.Range.{Q, Within, q-at}
-use Rattle.numbers.proofs.Table.{each, table-within, order-at, ≤ℤ-trans}
+use Rattle.numbers.specs.Listed.{all}
+use Rattle.numbers.proofs.Lists.{all-at}
+use Rattle.numbers.proofs.Table.{table-within, order-at, ≤ℤ-trans}
 use Rattle.sound.specs.Gauss.{weights, weightAt}
 
 pub weight-within : (i : ℕ) → Within 1833 (weightAt i)
-unfolding weightAt weights
-weight-within i = table-within 1833 weights tt i
+unfolding weightAt weights all
+weight-within i = table-within 1833 weights refl i
 
 pub weight-least : (i : ℕ) → pos 0 ≤ℤ weightAt i
-unfolding weightAt weights
-weight-least i = leZ-yes (each (leZ (pos 0)) weights tt tt i)
+unfolding weightAt weights all
+weight-least i = leZ-yes (rw (all-at (leZ (pos 0)) (pos 0) weights refl refl i) tt)
 
 pub weights-ordered : (i : ℕ) → suc i < 512 → weightAt i ≤ℤ weightAt (suc i)
 unfolding weightAt weights

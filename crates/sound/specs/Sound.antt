@@ -1,5 +1,5 @@
 -- The chip's formulas on samples and volumes: products, sums, the echo's filter.
-use mathlib.Core.List.{List, [], _∷_}
+use mathlib.Core.List.{List}
 use Prim.Native.Nat.{ℕ, zero, suc, _+_, _*_}
 use lib.IntN.{ℤ, pos, _+ℤ_, _*ℤ_}
 use lib.ListN.{getD}
@@ -48,8 +48,3 @@ firSum history taps (suc n) = firSum history taps n +ℤ firTap (getD history n 
 -- seven summed, cut to 16 bits; the eighth cut, added; clamp; clear bit 0
 unfoldable pub firOf : List ℤ → List ℤ → ℤ
 firOf history taps = even (clamp16Z (to16 (firSum history taps 7) +ℤ to16 (firTap (getD history 7 (pos 0)) (getD taps 7 (pos 0)))))
-
--- a history, oldest first, moved on by a sample, which is kept >> 1
-abbrev pub movedOn : List ℤ → ℤ → List ℤ
-movedOn h x =
-    getD h 1 (pos 0) ∷ getD h 2 (pos 0) ∷ getD h 3 (pos 0) ∷ getD h 4 (pos 0) ∷ getD h 5 (pos 0) ∷ getD h 6 (pos 0) ∷ getD h 7 (pos 0) ∷ (x >> 1) ∷ []

@@ -1,6 +1,9 @@
 // The chip's formulas and tables: total functions of numbers, with no record and no RAM.
 ghost use mathlib.Core.Path.{_≡_};
-ghost use Rattle.sound.specs.Sound.{even, joined, volumed, summed, mastered, fedBack, firTap, firSum, firOf, movedOn, to16};
+ghost use Rattle.numbers.specs.Listed.{movedOn};
+// in a contract `_>>_` is the logic's own
+ghost use Rattle.numbers.specs.Signed.{_>>_ as _≫_};
+ghost use Rattle.sound.specs.Sound.{even, joined, volumed, summed, mastered, fedBack, firTap, firSum, firOf, to16};
 
 mod adsr;
 mod brr;
@@ -96,7 +99,7 @@ pub fn fir(h: [i16; 8], taps: [i8; 8]) -> i16
 
 // A history, oldest first, moved on by a sample, which is kept halved.
 pub fn moved_on(h: [i16; 8], x: i16) -> [i16; 8]
-    ensures { λ r. ⌜ r ≡ movedOn h x ⌝ }
+    ensures { λ r. ⌜ r ≡ movedOn h (x ≫ 1) ⌝ }
 {
     let y = x >> 1;
     [h[1], h[2], h[3], h[4], h[5], h[6], h[7], y]

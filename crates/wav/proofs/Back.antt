@@ -9,7 +9,7 @@ use lib.ListN.{length}
 use lib.Seq.{drop-at}
 use borrow.Author.Tests.{eqb-true, eqb-false, eq-eqb, le-leb}
 use Rattle.numbers.specs.Choice.{_=?_}
-use Rattle.wav.specs.Wav.{Written, headerOf, framesIn, isSound, headerSize, wavOf, same, samplesIn, isWav, writeOf, refusedBy, framesOf, Restored, readOf}
+use Rattle.wav.specs.Wav.{Filed, headerOf, framesIn, isSound, headerSize, wavOf, sameBytes, samplesIn, isWav, filedOf, refusedBy, framesOf, Restored, readOf}
 use Rattle.wav.specs.Laws.{ReadsBack, WritesBack, OneFile, TellsFiles, NoFrames, Refuses}
 use Rattle.wav.proofs.Rows.{same-self}
 use Rattle.wav.proofs.Files.{sound-whole, header-length, wav-length, wav-is, wav-size, tested, unsound, no-room, wrote}
@@ -23,7 +23,7 @@ file-of : (pcm : List ℕ) → isSound (length pcm) ≡ true → isWav (wavOf pc
 unfolding isWav
 file-of pcm s =
     let e = samples-back pcm in
-    ap (λ (p : List ℕ). isSound (length p) && same (wavOf pcm) (wavOf p)) e ∙ (λ i. s i && same-self (wavOf pcm) i)
+    ap (λ (p : List ℕ). isSound (length p) && sameBytes (wavOf pcm) (wavOf p)) e ∙ (λ i. s i && same-self (wavOf pcm) i)
 
 pub tells-files : TellsFiles
 tells-files file = (λ e. record { pcm = samplesIn file; sound = wav-is file e .0; is = wav-is file e .1 }, λ f. ap isWav (f .is) ∙ file-of (f .pcm) (f .sound))
@@ -63,11 +63,11 @@ unread : (file pcm : List ℕ) (k : ℕ) → told (readOf file pcm) ≡ k → (k
 unread file pcm k e h =
     ⊎-elim (λ t. absurd (h (sym e ∙ ap told (t .1)))) (λ r. r .1 ∙ ap (λ (n : ℕ). record { frames = refusedBy n; pcm = pcm }) (sym (ap told (r .1)) ∙ e)) (outcome file pcm)
 
-unwritten : (pcm file : List ℕ) → (writeOf pcm file .refusal ≡ 0 → ⊥) → writeOf pcm file ≡ record { refusal = 10; file = file }
+unwritten : (pcm file : List ℕ) → (filedOf pcm file .refusal ≡ 0 → ⊥) → filedOf pcm file ≡ record { refusal = 10; file = file }
 unwritten pcm file h =
     tested (isSound (length pcm)) (unsound pcm file)
     (λ e. tested (length file =? headerSize + length pcm) (λ n. no-room pcm file e (eqb-false _ _ n))
-    (λ n. absurd (h (ap (λ (x : Written). x .refusal) (wrote pcm file e (eqb-true _ _ n))))))
+    (λ n. absurd (h (ap (λ (x : Filed). x .refusal) (wrote pcm file e (eqb-true _ _ n))))))
 
 -- ---- what is written, and what is read
 
@@ -83,8 +83,8 @@ reads-back frames few pcm file to lp lf lt =
     let w = wrote pcm file s (omega arith) in
     let b = samples-back pcm in
     let n : framesIn (length pcm) ≡ frames = omega arith in (
-      ap (λ (x : Written). x .refusal) w,
-      ap (λ (x : Written). readOf (x .file) to) w ∙ got (wavOf pcm) to (file-of pcm s) (lt ∙ sym lp ∙ sym (ap length b))
+      ap (λ (x : Filed). x .refusal) w,
+      ap (λ (x : Filed). readOf (x .file) to) w ∙ got (wavOf pcm) to (file-of pcm s) (lt ∙ sym lp ∙ sym (ap length b))
           ∙ (λ i. record { frames = record { refusal = 0; frames = framesIn (length (b i)) }; pcm = b i })
           ∙ ap (λ (k : ℕ). record { frames = record { refusal = 0; frames = k }; pcm = pcm }) n,
     )
@@ -93,7 +93,7 @@ pub writes-back : WritesBack
 writes-back file pcm to z l =
     let r = taken file pcm z in
     let w = wav-is file (r .0) in
-    ap (λ (x : Restored). writeOf (x .pcm) to) (r .1) ∙ wrote (samplesIn file) to (w .0) (l ∙ wav-size file (r .0)) ∙ ap (λ (f : List ℕ). record { refusal = 0; file = f }) (sym (w .1))
+    ap (λ (x : Restored). filedOf (x .pcm) to) (r .1) ∙ wrote (samplesIn file) to (w .0) (l ∙ wav-size file (r .0)) ∙ ap (λ (f : List ℕ). record { refusal = 0; file = f }) (sym (w .1))
 
 pub refuses : Refuses
 refuses = (unwritten, unread)

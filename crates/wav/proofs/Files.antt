@@ -13,7 +13,7 @@ use Rattle.numbers.specs.Bytes.{copied}
 use Rattle.numbers.specs.Choice.{_≤?_, _=?_}
 use Rattle.numbers.proofs.Choice.{chosen}
 use Rattle.numbers.proofs.Parts.{Written, sized, part-put, all-written, copied-whole, mid-length}
-use Rattle.wav.specs.Wav.{headerOf, framesIn, isSound, headerSize, wavOf, same, samplesIn, isWav, dataSize, writeOf, refusedBy, framesOf, Restored, readOf}
+use Rattle.wav.specs.Wav.{headerOf, framesIn, isSound, headerSize, wavOf, sameBytes, samplesIn, isWav, dataSize, filedOf, refusedBy, framesOf, Restored, readOf}
 use Rattle.wav.specs.declared.Frames.{Frames}
 use Rattle.wav.proofs.Rows.{both, same-is, same-before}
 
@@ -34,22 +34,22 @@ wav-length pcm = length-append (headerOf (framesIn (length pcm))) pcm ∙ ap (λ
 -- a file of this layout is the file of its samples
 pub wav-is : (file : List ℕ) → isWav file ≡ true → (isSound (length (samplesIn file)) ≡ true) × (file ≡ wavOf (samplesIn file))
 unfolding isWav
-wav-is file e = let t = both (isSound (length (samplesIn file))) (same file (wavOf (samplesIn file))) e in (t .0, same-is _ _ (t .1))
+wav-is file e = let t = both (isSound (length (samplesIn file))) (sameBytes file (wavOf (samplesIn file))) e in (t .0, same-is _ _ (t .1))
 
 pub wav-size : (file : List ℕ) → isWav file ≡ true → length file ≡ headerSize + length (samplesIn file)
 wav-size file e = ap length (wav-is file e .1) ∙ wav-length (samplesIn file)
 
 -- by its length and its first 44 bytes
 pub by-header : (file : List ℕ) → headerSize ≤ length file
-    → isWav file ≡ (isSound (length file - headerSize) && same (take headerSize file) (headerOf (framesIn (length file - headerSize))))
+    → isWav file ≡ (isSound (length file - headerSize) && sameBytes (take headerSize file) (headerOf (framesIn (length file - headerSize))))
 unfolding isWav wavOf
 by-header file h =
     let n = length file - headerSize in
     let s = samplesIn file in
-    let front : same file (headerOf (framesIn n) ++ s) ≡ same (take headerSize file) (headerOf (framesIn n)) =
-    ap (λ (f : List ℕ). same f (headerOf (framesIn n) ++ s)) (sym (take-append-drop headerSize file))
+    let front : sameBytes file (headerOf (framesIn n) ++ s) ≡ sameBytes (take headerSize file) (headerOf (framesIn n)) =
+    ap (λ (f : List ℕ). sameBytes f (headerOf (framesIn n) ++ s)) (sym (take-append-drop headerSize file))
     ∙ same-before (take headerSize file) (headerOf (framesIn n)) s (length-take-le headerSize file h ∙ sym (header-length (framesIn n))) in
-    ap (λ (k : ℕ). isSound k && same file (headerOf (framesIn k) ++ s)) (length-drop headerSize file) ∙ ap (λ (t : Bool). isSound n && t) front
+    ap (λ (k : ℕ). isSound k && sameBytes file (headerOf (framesIn k) ++ s)) (length-drop headerSize file) ∙ ap (λ (t : Bool). isSound n && t) front
 
 -- what holds where a test fails, and where it passes, holds
 pub tested : {P : Type 0} (t : Bool) → (t ≡ false → P) → (t ≡ true → P) → P
@@ -63,23 +63,23 @@ short-none file h = tested (isWav file) (λ e. e) (λ e. let l = wav-size file e
 -- ---- the writer
 
 module _ (pcm file : List ℕ) where
-  pub unsound : isSound (length pcm) ≡ false → writeOf pcm file ≡ record { refusal = 10; file = file }
-  unfolding writeOf
+  pub unsound : isSound (length pcm) ≡ false → filedOf pcm file ≡ record { refusal = 10; file = file }
+  unfolding filedOf
   unsound e = rw e
 
-  pub no-room : isSound (length pcm) ≡ true → (length file ≡ headerSize + length pcm → ⊥) → writeOf pcm file ≡ record { refusal = 10; file = file }
-  unfolding writeOf
+  pub no-room : isSound (length pcm) ≡ true → (length file ≡ headerSize + length pcm → ⊥) → filedOf pcm file ≡ record { refusal = 10; file = file }
+  unfolding filedOf
   no-room e h = rw (e, ne-eqb _ _ h)
 
-  pub wrote : isSound (length pcm) ≡ true → length file ≡ headerSize + length pcm → writeOf pcm file ≡ record { refusal = 0; file = wavOf pcm }
-  unfolding writeOf
+  pub wrote : isSound (length pcm) ≡ true → length file ≡ headerSize + length pcm → filedOf pcm file ≡ record { refusal = 0; file = wavOf pcm }
+  unfolding filedOf
   wrote e h = rw (e, eq-eqb _ _ h)
 
   -- the header is copied to the front, then the samples to what is behind it
   pub written : isSound (length pcm) ≡ true → length file ≡ headerSize + length pcm
       → {header front back : List ℕ} → header ≡ headerOf (framesIn (length pcm)) → front ≡ copied header (take headerSize file)
       → let new = front ++ drop headerSize file in let rest = length new - headerSize in
-      back ≡ copied pcm (midOf headerSize rest new) → writeOf pcm file ≡ record { refusal = 0; file = putMid headerSize rest new back }
+      back ≡ copied pcm (midOf headerSize rest new) → filedOf pcm file ≡ record { refusal = 0; file = putMid headerSize rest new back }
   unfolding wavOf
   written e h {header} {front} {back} he fe be =
       let k = framesIn (length pcm) in

@@ -4,7 +4,7 @@ use mathlib.Core.List.{List, [], _∷_, _++_}
 use mathlib.Core.Path.{_≡_, refl}
 use Prim.Native.Nat.{ℕ, _+_}
 use lib.ListN.{take, drop, length}
-use Rattle.wav.specs.Wav.{inBytes, dataSize, headerOf, wavOf, same, isWav}
+use Rattle.wav.specs.Wav.{inBytes, dataSize, headerOf, wavOf, sameBytes, isWav}
 
 -- a header of one frame: sizes 40 and 4
 pub of-one-frame : headerOf 1 ≡
@@ -23,25 +23,25 @@ put at bytes = take at (wavOf frame) ++ bytes ++ drop (at + length bytes) (wavOf
 
 -- other samples are another sound
 pub other-samples : isWav (put 44 (0x35 ∷ [])) ≡ true
-unfolding isWav wavOf headerOf inBytes same
+unfolding isWav wavOf headerOf inBytes sameBytes
 other-samples = refl
 
 pub no-tail : isWav (wavOf frame ++ (0 ∷ [])) ≡ false
-unfolding isWav wavOf headerOf inBytes same
+unfolding isWav wavOf headerOf inBytes sameBytes
 no-tail = refl
 
 pub no-frame-behind : isWav (wavOf frame ++ frame) ≡ false
-unfolding isWav wavOf headerOf inBytes same
+unfolding isWav wavOf headerOf inBytes sameBytes
 no-frame-behind = refl
 
 pub no-other-first-size : isWav (put 4 (inBytes 4 (dataSize 1))) ≡ false
-unfolding isWav wavOf headerOf inBytes same
+unfolding isWav wavOf headerOf inBytes sameBytes
 no-other-first-size = refl
 
 pub no-other-second-size : isWav (put 40 (inBytes 4 (dataSize 0))) ≡ false
-unfolding isWav wavOf headerOf inBytes same
+unfolding isWav wavOf headerOf inBytes sameBytes
 no-other-second-size = refl
 
 pub no-one-channel : isWav (put 28 (inBytes 4 64000)) ≡ false
-unfolding isWav wavOf headerOf inBytes same
+unfolding isWav wavOf headerOf inBytes sameBytes
 no-one-channel = refl

@@ -4,17 +4,17 @@ use mathlib.Core.List.{List, [], _∷_, _++_}
 use mathlib.Core.Path.{_≡_}
 use Prim.Native.Nat.{ℕ, _+_, _*_, _^_, _≤_, _<_}
 use lib.ListN.{length}
-use Rattle.wav.specs.Wav.{inBytes, RIFF, WAVE, fmt, data′, PCM, channels, framesASecond, bytesASecond, bytesAFrame, bitsASample, isSound, wavOf, samplesIn, isWav, writeOf, refusedBy, readOf}
+use Rattle.wav.specs.Wav.{inBytes, RIFF, WAVE, fmt, data′, PCM, channels, framesASecond, bytesASecond, bytesAFrame, bitsASample, isSound, wavOf, samplesIn, isWav, filedOf, refusedBy, readOf}
 
 -- "a file put back gives the same frames": no sound of 0 to 32,000 frames is refused, and reading what was written gives it back
 abbrev pub ReadsBack : Type 0
 ReadsBack = (frames : ℕ) → frames ≤ 32000 → (pcm file to : List ℕ) → length pcm ≡ frames * 4 → length file ≡ 44 + frames * 4 → length to ≡ frames * 4
-    → (writeOf pcm file .refusal ≡ 0) × (readOf (writeOf pcm file .file) to ≡ record { frames = record { refusal = 0; frames = frames }; pcm = pcm })
+    → (filedOf pcm file .refusal ≡ 0) × (readOf (filedOf pcm file .file) to ≡ record { frames = record { refusal = 0; frames = frames }; pcm = pcm })
 
 -- writing what was read gives the same file
 abbrev pub WritesBack : Type 0
 WritesBack = (file pcm to : List ℕ) → readOf file pcm .frames .refusal ≡ 0 → length to ≡ length file
-    → writeOf (readOf file pcm .pcm) to ≡ record { refusal = 0; file = file }
+    → filedOf (readOf file pcm .pcm) to ≡ record { refusal = 0; file = file }
 
 -- so each sound has one file
 abbrev pub OneFile : Type 0
@@ -36,7 +36,7 @@ NoFrames = (isWav (wavOf []) ≡ true) × (length (wavOf []) ≡ 44)
 
 -- a refusal leaves the file, or the destination, and answers no frames
 abbrev pub Refuses : Type 0
-Refuses = ((pcm file : List ℕ) → (writeOf pcm file .refusal ≡ 0 → ⊥) → writeOf pcm file ≡ record { refusal = 10; file = file })
+Refuses = ((pcm file : List ℕ) → (filedOf pcm file .refusal ≡ 0 → ⊥) → filedOf pcm file ≡ record { refusal = 10; file = file })
     × ((file pcm : List ℕ) → (k : ℕ) → readOf file pcm .frames .refusal ≡ k → (k ≡ 0 → ⊥) → readOf file pcm ≡ record { frames = refusedBy k; pcm = pcm })
 
 -- ---- that the header's sizes are RIFF's own: a chunk is its name, its size and its bytes

@@ -85,11 +85,11 @@ wavOf pcm = headerOf (framesIn (length pcm)) ++ pcm
 
 -- ---- a file of this layout
 
-unfoldable pub same : List ℕ → List ℕ → Bool
-same [] [] = true
-same [] (y ∷ ys) = false
-same (x ∷ xs) [] = false
-same (x ∷ xs) (y ∷ ys) = (x =? y) && same xs ys
+unfoldable pub sameBytes : List ℕ → List ℕ → Bool
+sameBytes [] [] = true
+sameBytes [] (y ∷ ys) = false
+sameBytes (x ∷ xs) [] = false
+sameBytes (x ∷ xs) (y ∷ ys) = (x =? y) && sameBytes xs ys
 
 -- what stands behind the header
 abbrev pub samplesIn : List ℕ → List ℕ
@@ -97,19 +97,19 @@ samplesIn file = drop headerSize file
 
 -- "a reader for just that layout": a file is of it that is the file of the samples behind its own header
 unfoldable pub isWav : List ℕ → Bool
-unfolding wavOf same
-isWav file = isSound (length (samplesIn file)) && same file (wavOf (samplesIn file))
+unfolding wavOf sameBytes
+isWav file = isSound (length (samplesIn file)) && sameBytes file (wavOf (samplesIn file))
 
 -- ---- what the writer, the reader and `wav_frames` leave: a refused call writes nothing and answers no frames
 
-pub record Written : Type 0 where
+pub record Filed : Type 0 where
   pub refusal : ℕ
   pub file : List ℕ
 
 -- "10 for samples that aren't whole frames or are too many, or a destination not of 44 bytes plus 4 per frame"
-unfoldable pub writeOf : List ℕ → List ℕ → Written
+unfoldable pub filedOf : List ℕ → List ℕ → Filed
 unfolding wavOf
-writeOf pcm file =
+filedOf pcm file =
     if not (isSound (length pcm)) then record { refusal = 10; file = file } else
     if not (length file =? headerSize + length pcm) then record { refusal = 10; file = file } else
     record { refusal = 0; file = wavOf pcm }

@@ -3,7 +3,7 @@ ghost use mathlib.Core.Path.{_≡_};
 ghost use Prim.Native.Nat.{_-_, _≤_};
 ghost use lib.ListN.{length};
 ghost use borrow.Rule.Slice.PartMut.{putMid};
-ghost use Rattle.wav.specs.Wav.{inBytes, headerOf, isSound, same as sameBytes, Written, writeOf, refusedBy, framesOf, Restored, readOf};
+ghost use Rattle.wav.specs.Wav.{inBytes, headerOf, isSound, sameBytes, Filed, filedOf, refusedBy, framesOf, Restored, readOf};
 use numbers::copy;
 
 const HEADER_SIZE: usize = 44;
@@ -110,7 +110,7 @@ fn refused(refusal: u8) -> Frames
 
 // 10 for samples that are not whole frames or too many, or for a file of another length than theirs.
 pub fn write_wav(pcm: &[u8], file: &mut [u8]) -> u8
-    ensures { λ r. ⌜ _≡_ {A = Written} (record { refusal = r; file = now (file .exit) }) (writeOf (now (pcm .entry)) (now (file .entry))) ⌝ }
+    ensures { λ r. ⌜ _≡_ {A = Filed} (record { refusal = r; file = now (file .exit) }) (filedOf (now (pcm .entry)) (now (file .entry))) ⌝ }
 {
     let size = pcm.len();
     if !is_sound(size) {

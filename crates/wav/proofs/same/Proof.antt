@@ -5,13 +5,13 @@ use Prim.Native.Nat.{_-_, _≤_, _<_}
 use native.Mathlib.Omega.{arith}
 use lib.ListN.{length, drop, drop-of-length-le}
 use borrow.Author.Tests.{ne-eqb, eq-eqb}
-use Rattle.wav.specs.Wav.{same}
+use Rattle.wav.specs.Wav.{sameBytes}
 use Rattle.wav.proofs.Rows.{same-from}
 use Rattle.wav.proofs.same.Statement.{statement}
 use Rattle.wav.proofs.same.Tie as tie
 
 abbrev Inv-loop : tie.InvT-loop
-Inv-loop a b at₀ at = (at ≤ length a) × (same (drop at a) (drop at b) ≡ same a b)
+Inv-loop a b at₀ at = (at ≤ length a) × (sameBytes (drop at a) (drop at b) ≡ sameBytes a b)
 
 abbrev μ-loop : tie.MeasureT-loop
 μ-loop a b at₀ at = length a - at
@@ -33,7 +33,7 @@ loop-again c =
     (omega arith, sym (sym (l .inv .1) ∙ same-from (a .a .now) (a .b .now) (l .at) t k ∙ rw (eq-eqb _ _ (c .if1 .left))))
 
 returns-2 : tie.Need-returns-2 Inv-loop μ-loop
-unfolding same
+unfolding sameBytes
 returns-2 c =
     let a = c .before .before .args in
     let l = c .before .loop in

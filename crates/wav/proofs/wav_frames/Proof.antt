@@ -7,7 +7,7 @@ use native.Mathlib.Omega.{arith}
 use lib.ListN.{length, take}
 use lib.Seq.{length-take-le}
 use borrow.Author.Tests.{not-true, not-false}
-use Rattle.wav.specs.Wav.{headerOf, framesIn, isSound, same}
+use Rattle.wav.specs.Wav.{headerOf, framesIn, isSound, sameBytes}
 use Rattle.wav.proofs.Files.{sound-few, header-length, by-header, short-none, not-frames, frames-are}
 use Rattle.wav.proofs.wav_frames.Statement.{statement}
 use Rattle.wav.proofs.wav_frames.Tie as tie
@@ -16,8 +16,8 @@ sound : (c : tie.Else2) → isSound (length (c .before .before .before .before .
 sound c = sym (c .before .is-sound .ensures) ∙ not-false _ (c .if2 .left)
 
 -- what the comparison of the first 44 bytes tells
-compared : (c : tie.After-same) → c .same .result ≡ same (take 44 (c .before .before .before .before .before .before .before .before .args .file .now)) (headerOf (framesIn (length (c .before .before .before .before .before .before .before .before .args .file .now) - 44)))
-compared c = c .same .ensures ∙ ap (same (take 44 (c .before .before .before .before .before .before .before .before .args .file .now))) (c .before .before .before .header-of .ensures)
+compared : (c : tie.After-same) → c .same .result ≡ sameBytes (take 44 (c .before .before .before .before .before .before .before .before .args .file .now)) (headerOf (framesIn (length (c .before .before .before .before .before .before .before .before .args .file .now) - 44)))
+compared c = c .same .ensures ∙ ap (sameBytes (take 44 (c .before .before .before .before .before .before .before .before .args .file .now))) (c .before .before .before .header-of .ensures)
 
 returns-2 : tie.Need-returns-2
 returns-2 c =

@@ -1,6 +1,6 @@
 -- The wrapping sum is the sum modulo 65,536.
 use borrow.Author.Needs.{needs}
-use Rattle.dsp.specs.Brr.{byteAt}
+use Rattle.dsp.specs.Ram.{byteAt}
 use Rattle.dsp.proofs.brr.ram_read8.Statement.{statement}
 use Rattle.dsp.proofs.brr.ram_read8.Tie as tie
 

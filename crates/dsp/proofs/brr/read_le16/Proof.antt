@@ -1,7 +1,7 @@
 -- Two bytes.
 use borrow.Author.Needs.{needs}
 use native.Mathlib.Nat.{add-assoc}
-use Rattle.dsp.specs.Brr.{wordAt}
+use Rattle.dsp.specs.Ram.{wordAt}
 use Rattle.dsp.proofs.brr.read_le16.Statement.{statement}
 use Rattle.dsp.proofs.brr.read_le16.Tie as tie
 

@@ -11,7 +11,7 @@ use Rattle.numbers.proofs.Range.{Q, fits, reads, q-by, q-add, q-mul, q-shr, q-r
 use Rattle.numbers.proofs.Cut.{q-cutZ}
 use Rattle.numbers.proofs.Clamp.{q-clamp16, calls}
 use Rattle.sound.proofs.Weights.{q-weight}
-use Rattle.dsp.specs.Gauss.{tapZ}
+use Rattle.dsp.specs.Interpolation.{tapZ}
 use Rattle.dsp.proofs.gauss.interpolate.Statement.{statement}
 use Rattle.dsp.proofs.gauss.interpolate.Tie as tie
 

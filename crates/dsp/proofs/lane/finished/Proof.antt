@@ -1,14 +1,16 @@
 -- The callees, with the read-backs removed.
 use borrow.Author.Needs.{needs}
 use native.Mathlib.Nat.{mod-eq-of-lt}
-use mathlib.Core.Path.{_≡_, _∙_, ap}
-use Prim.Native.Nat.{_<_}
+use mathlib.Core.Path.{_≡_, _∙_, sym, ap, subst}
+use Prim.Native.Nat.{_<_, _≤_}
 use lib.Signed.{mag}
 use mir.Syntax.{w16}
 use Rattle.numbers.proofs.Range.{landed}
 use Rattle.numbers.specs.Bits.{bit}
-use Rattle.dsp.specs.Mix.{scaledOutput}
-use Rattle.dsp.specs.Lane.{noised, Waiting, cellAfter}
+use Rattle.dsp.specs.Voice.{Sounding}
+use Rattle.dsp.specs.Mix.{scaledOutput, outputOf}
+use Rattle.dsp.specs.Lane.{noised, Cell, cellAfter}
+use Rattle.dsp.specs.Inside.{asVoice, asSounding}
 use Rattle.dsp.proofs.lane.finished.Statement.{statement}
 use Rattle.dsp.proofs.lane.finished.Tie as tie
 
@@ -19,26 +21,31 @@ noise-small c = search needs
 sample-small : (c : tie.After-struct-told2) → mag (c .before .before .noised .result .«current_sample») < 0x8000
 sample-small c = c .struct-told2 .given .1 .1 .1 .1 .1 .1 .1 .1 .1 .0 .1
 
-is-noised : (c : tie.After-noised) → c .noised .result ≡ noised (bit (c .before .before .before .before .args .c .non) (c .before .before .before .before .args .j)) (c .before .before .before .before .args .c .noise) (c .before .before .before .before .args .h .play)
+is-noised : (c : tie.After-noised)
+    → _≡_ {A = Sounding} (asSounding (c .before .before .before .before .args .v) (c .noised .result) (c .before .before .before .before .args .samples)) (record { voice = noised (bit (c .before .before .before .before .args .c .non) (c .before .before .before .before .args .j)) (c .before .before .before .before .args .c .noise) (asVoice (c .before .before .before .before .args .v) (c .before .before .before .before .args .h .play) (c .before .before .before .before .args .samples)); endx = c .before .before .before .before .args .h .play .endx })
 is-noised c =
     let s = c .before .before .before .before in
     let a = s .args in
     let non = rw (mod-eq-of-lt (s .pre .0)) at (c .before .before .bit .ensures) in
-    c .noised .ensures ∙ (λ i. noised (non i) (landed w16 {z = a .c .noise} (noise-small (c .before)) i) (a .h .play))
+    c .noised .ensures (a .v) (a .samples)
+    ∙ (λ i. record { voice = noised (non i) (landed w16 {z = a .c .noise} (noise-small (c .before)) i) (asVoice (a .v) (a .h .play) (a .samples)); endx = a .h .play .endx })
 
 scaled-output-requires : tie.Need-scaled-output-requires
 unfolding noised
-scaled-output-requires c κs = rw (c .before .before .noised .ensures) (c .before .before .before .before .before .before .pre .1)
+scaled-output-requires c κs =
+    let a = c .before .before .before .before .before .before .args in
+    let e = c .before .before .noised .ensures (a .v) (a .samples) in
+    subst (λ (s : Sounding). s .voice .adsr .«envelope_level» ≤ 0x800) {x = e 1} (sym {b = e 1} e) (c .before .before .before .before .before .before .pre .1)
 
 returns : tie.Need-returns
 unfolding cellAfter
 returns c =
     let a = c .before .before .before .before .before .before .before .before .args in
     let n = c .before .before .before .before .noised .result in
-    let w : Waiting = record { play = a .h .play; samples = a .samples; delay = a .h .delay; envx = a .h .envx } in
     let e = landed w16 {z = n .«current_sample»} (sample-small (c .before .before)) in
     let o = landed w16 (c .before .scaled-output .ok) ∙ c .before .scaled-output .ensures ∙ ap (scaledOutput (n .envelope .phase) (n .envelope .level)) e in
-    rw (← is-noised (c .before .before .before .before)) (λ i. record { voice = c .with-play .ensures i; delay = a .h .delay; out = o i; envx = a .h .envx; endx = n .endx })
+    let F : Sounding → Cell = λ (s : Sounding). record { voice = s .voice; delay = a .h .delay; out = outputOf (s .voice); envx = a .h .envx; endx = s .endx } in
+    (λ i. record { voice = c .with-play .ensures i; delay = a .h .delay; out = o i; envx = a .h .envx; endx = n .endx }) ∙ ap F (is-noised (c .before .before .before .before))
 
 pub finished-spec : {M : Type 1} → statement M
 finished-spec =

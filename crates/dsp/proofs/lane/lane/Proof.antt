@@ -8,6 +8,7 @@ use Rattle.numbers.proofs.Range.{landed}
 use Rattle.dsp.specs.Sheet.{laneBytes}
 use Rattle.dsp.specs.Lane.{ownCell, shownCell, added, putBytes, turned}
 use Rattle.dsp.specs.Lane as lanes
+use Rattle.dsp.specs.Inside.{asShared, asSums}
 use Rattle.dsp.proofs.lane.lane.Statement.{statement}
 use Rattle.dsp.proofs.lane.lane.Tie as tie
 
@@ -30,12 +31,12 @@ returns c = let s = c .before .before .before .before .before .before .before .b
     (λ i. record {
       voice = x .voice;
       delay = x .delay;
-      acc = (c .added .ensures ∙ (λ k. added (eon k) (o k) (l k) (r k) (a .acc))) i;
+      sums = (c .added .ensures ∙ (λ k. added (eon k) (o k) (l k) (r k) (asSums (a .acc)))) i;
       bytes = (c .before .before .before .before .before .before .before .before .before .before .before .before .before .put-bytes .ensures ∙ (λ k. putBytes (a .j) (x .envx) (o k) (x .endx) (a .bytes .now))) i;
       slot = (c .before .before .before .before .before .before .before .before .put-slot .ensures ∙ (λ k. if a .worked then laneBytes (o k) (x .envx) (x .endx) else a .slot .now)) i;
     })
-    ∙ ap (lanes.landed (a .worked) (a .c) (a .j) (a .acc) (a .bytes .now) (a .slot .now))
-    (c .before .before .before .before .before .before .before .before .before .before .before .before .before .before .before .before .cell .ensures ∙ (λ k. if a .worked then ownCell (a .c) (a .ram .now) (a .j) (e k) (a .v) (a .delay) (a .bytes .now) else shownCell (a .slot .now) (a .v) (a .delay)))
+    ∙ ap (lanes.landed (a .worked) (asShared (a .c)) (a .j) (asSums (a .acc)) (a .bytes .now) (a .slot .now))
+    (c .before .before .before .before .before .before .before .before .before .before .before .before .before .before .before .before .cell .ensures ∙ (λ k. if a .worked then ownCell (asShared (a .c)) (a .ram .now) (a .j) (e k) (a .v) (a .delay) (a .bytes .now) else shownCell (a .slot .now) (a .v) (a .delay)))
 
 pub lane-spec : {M : Type 1} → statement M
 lane-spec =

@@ -7,6 +7,7 @@ use lib.ListN.{getD}
 use mir.Syntax.{w16}
 use mir.ValLaws.{toZ-ofZ}
 use Rattle.dsp.specs.Lane.{Waiting, waitedOf, cellAfter, cellOf, ownCell}
+use Rattle.dsp.specs.Inside.{asShared}
 use Rattle.dsp.proofs.Lanes.{fit-kept-waited}
 use Rattle.dsp.proofs.lane.own_cell.Statement.{statement}
 use Rattle.dsp.proofs.lane.own_cell.Tie as tie
@@ -16,11 +17,8 @@ low : (c : tie.After-stepped) → c .stepped .result .play .envelope .level ≤ 
 low c =
     let s = c .before .before .before .before .before .before .before .before .before .before .before in
     let e = c .stepped .ensures in
-    subst (λ (w : Waiting). w .play .envelope .level ≤ 0x800) {x = e 1} {y = e 0} (sym {a = e 0} {b = e 1} e)
-    (fit-kept-waited _ _ _ _ _ _ _ _ _ _ (s .pre .5) (s .pre .6) .play .envelope .level)
-
-finished-requires : tie.Need-finished-requires
-finished-requires c κs = (c .before .before .before .before .before .before .before .before .before .before .before .before .pre .4, low (c .before))
+    subst (λ (w : Waiting). w .sounding .voice .adsr .«envelope_level» ≤ 0x800) {x = e 1} {y = e 0} (sym {a = e 0} {b = e 1} e)
+    (fit-kept-waited _ _ _ _ _ _ _ _ _ (s .pre .5) (s .pre .6) .voice .1 .1 .0)
 
 returns : tie.Need-returns
 unfolding ownCell cellOf
@@ -30,8 +28,8 @@ returns c = let s = c .before .before .before .before .before .before .before .b
     let endx = rw (mod-eq-of-lt (s .pre .4)) at (c .before .before .before .before .before .before .bit .ensures) in
     let t = c .before .before .stepped .ensures in
     let f = c .finished .ensures in
-    let w = _∙_ {a = t 0} {b = t 1} t (λ i. waitedOf (a .c) (a .ram .now) (a .j) (e i) (a .v) (a .delay) (getD (a .bytes .now) (a .j * 16 + 4) 0) (getD (a .bytes .now) (a .j * 16 + 8) 0) (endx i) (c .before .before .before .before .samples .ensures i)) in
-    _∙_ {b = f 1} f (ap (cellAfter (a .c) (a .j) (a .v)) {x = t 0} w)
+    let w = _∙_ {a = t 0} {b = t 1} t (λ i. waitedOf (asShared (a .c)) (a .ram .now) (a .j) (e i) (a .v) (a .delay) (getD (a .bytes .now) (a .j * 16 + 4) 0) (getD (a .bytes .now) (a .j * 16 + 8) 0) (endx i)) in
+    _∙_ {b = f 1} f (ap (cellAfter (asShared (a .c)) (a .j)) {x = t 0} w)
 
 pub own-cell-spec : {M : Type 1} → statement M
 own-cell-spec =
@@ -48,5 +46,5 @@ own-cell-spec =
     (λ c κs. search needs)
     (λ c. search needs)
     (λ c κs. search needs)
-    finished-requires
+    (λ c κs. (c .before .before .before .before .before .before .before .before .before .before .before .before .pre .4, low (c .before)))
     returns)

@@ -9,7 +9,7 @@ use lib.Seq.{length-take-le}
 use mir.Syntax.{w16}
 use Rattle.numbers.specs.Unsigned.{wrapped}
 use Rattle.numbers.proofs.Range.{landed}
-use Rattle.replay.specs.Machine.{playback, keyedOn, tickOf}
+use Rattle.replay.specs.Machine.{playback, playing, answered}
 use Rattle.replay.specs.Block.{laid, playedBlock}
 use Rattle.replay.proofs.block.played.Statement.{statement}
 use Rattle.replay.proofs.block.played.Tie as tie
@@ -27,8 +27,8 @@ returns c =
     let p₁ = landed w16 (c .before .before .before .before .before .before .before .i16-at .ok) ∙ c .before .before .before .before .before .before .before .i16-at .ensures in
     let p₂ = landed w16 (c .before .before .before .before .before .before .i16-at2 .ok) ∙ c .before .before .before .before .before .before .i16-at2 .ensures in
     let b = c .before .before .before .before .before .playback .ensures ∙ (λ i. playback (e i) (p₁ i) (p₂ i) 0) in
-    let v = c .before .before .before .keyed-on .ensures ∙ (λ i. keyedOn (c .before .before .before .before .steady .ensures i) (b i) 0 (replicate 4 (pos 0))) in
-    c .before .tick .ensures ∙ (λ i. tickOf (v i) (ram i))
+    let v = c .before .before .before .keyed-on .ensures ∙ (λ i. playing (c .before .before .before .before .steady .ensures i) (b i) 0 (replicate 4 (pos 0))) in
+    c .before .tick .ensures ∙ (λ i. answered (v i) (ram i))
 
 pub played-spec : {M : Type 1} → statement M
 played-spec =

@@ -7,7 +7,7 @@ use lib.ListN.{replicate}
 use Rattle.numbers.specs.Choice.{_=?_}
 use Rattle.dsp.specs.declared.registers.Answer.{Answer}
 use Rattle.dsp.specs.declared.voice.Voice.{Voice}
-use Rattle.replay.specs.Machine.{keyedOn, tickOf}
+use Rattle.replay.specs.Machine.{playing, answered}
 use Rattle.replay.specs.Envelope.{envelopeSays, answerSays, envelopeEqual}
 use Rattle.replay.proofs.envelope.equal.Statement.{statement}
 use Rattle.replay.proofs.envelope.equal.Tie as tie
@@ -20,8 +20,8 @@ returns c =
     let ram = c .before .before .before .before .before .before .before .before .before .before .before .before .empty-ram .ensures in
     let b = c .before .before .before .before .before .before .before .before .before .before .before .playback .ensures in
     let e = c .before .before .before .before .before .before .before .before .before .before .adsr-of .ensures in
-    let v = c .before .before .before .before .before .before .before .before .before .keyed-on .ensures ∙ (λ i. keyedOn (e i) (b i) 0 (replicate 4 (pos 0))) in
-    let a = tick .ensures ∙ (λ i. tickOf (v i) (ram i)) in
+    let v = c .before .before .before .before .before .before .before .before .before .keyed-on .ensures ∙ (λ i. playing (e i) (b i) 0 (replicate 4 (pos 0))) in
+    let a = tick .ensures ∙ (λ i. answered (v i) (ram i)) in
     let s = c .says .ensures ∙ ap (λ (x : Voice). envelopeSays (x .adsr) r) (c .before .before .before .before .sound .ensures) in
     (λ i. (tick .result .refusal =? 0) && c .before .typed .ensures i && s i) ∙ ap (λ (x : Answer). answerSays x r) a
 

@@ -11,7 +11,7 @@ use Rattle.numbers.proofs.Range.{landed}
 use Rattle.dsp.specs.declared.registers.Answer.{Answer}
 use Rattle.dsp.specs.declared.voice.Voice.{Voice}
 use Rattle.replay.specs.Records.{i16At, _=ℤ?_}
-use Rattle.replay.specs.Machine.{keyedOn, tickOf}
+use Rattle.replay.specs.Machine.{playing, answered}
 use Rattle.replay.specs.Interpolation.{sampleSays, interpolationEqual}
 use Rattle.replay.proofs.interpolation.equal.Statement.{statement}
 use Rattle.replay.proofs.interpolation.equal.Tie as tie
@@ -30,8 +30,8 @@ returns c =
     let b = c .before .before .before .before .before .before .before .before .before .before .before .playback .ensures in
     let e = c .before .before .before .before .before .before .before .before .before .before .steady .ensures in
     let p = c .before .before .before .before .before .before .before .before .before .u16-at .ensures in
-    let v = c .before .before .before .before .before .before .before .before .keyed-on .ensures ∙ (λ i. keyedOn (e i) (b i) (p i) (h₀ i ∷ h₁ i ∷ h₂ i ∷ h₃ i ∷ [])) in
-    let a = tick .ensures ∙ (λ i. tickOf (v i) (ram i)) in
+    let v = c .before .before .before .before .before .before .before .before .keyed-on .ensures ∙ (λ i. playing (e i) (b i) (p i) (h₀ i ∷ h₁ i ∷ h₂ i ∷ h₃ i ∷ [])) in
+    let a = tick .ensures ∙ (λ i. answered (v i) (ram i)) in
     let x = c .before .before .before .sound in
     let s = c .is-i16-at .ensures ∙ ap (λ (z : ℤ). z =ℤ? i16At r 10) (landed w16 {z = x .result .«current_sample»} (c .before .struct-told .given .1 .1 .1 .1 .1 .1 .0 .1) ∙ ap (λ (w : Voice). w .«current_sample») (x .ensures)) in
     (λ i. (tick .result .refusal =? 0) && s i) ∙ ap (λ (w : Answer). sampleSays w r) a

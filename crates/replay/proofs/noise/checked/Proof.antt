@@ -6,24 +6,24 @@ use lib.IntN.{ℤ}
 use mir.Syntax.{w16}
 use Rattle.numbers.specs.Choice.{_=?_}
 use Rattle.numbers.proofs.Range.{landed}
-use Rattle.dsp.specs.Tick.{stepOf}
+use Rattle.dsp.specs.Ticks.{stepOf}
 use Rattle.dsp.specs.declared.registers.Answer.{Answer}
 use Rattle.dsp.specs.declared.voice.Voice.{Voice}
 use Rattle.replay.specs.Records.{i16At, _=ℤ?_}
-use Rattle.replay.specs.Machine.{answerOf}
-use Rattle.replay.specs.Noise.{carryOf, noisy, noiseTick, noiseSays, noiseCheck}
+use Rattle.replay.specs.Machine.{asAnswer}
+use Rattle.replay.specs.Noise.{carryOf, withNoise, noisyAnswer, noiseSays, noiseCheck}
 use Rattle.replay.proofs.noise.checked.Statement.{statement}
 use Rattle.replay.proofs.noise.checked.Tie as tie
 
 returns : tie.Need-returns
-unfolding noiseCheck noiseTick
+unfolding noiseCheck noisyAnswer
 returns c =
     let q = c .before .before .before .before .before .before .before .before .before in
     let r = q .before .before .before .args .bytes .now in
     let n = q .before .before .before .args .carry in
     let step = c .before .before .before .before .before .before .step in
     let ram = c .before .before .before .before .before .before .before .before .empty-ram .ensures in
-    let a = ap answerOf (step .ensures) ∙ (λ i. answerOf (stepOf (noisy (q .byte-at .ensures i) n (q .before .new .ensures i)) (ram i))) in
+    let a = ap asAnswer (step .ensures) ∙ (λ i. asAnswer (stepOf (withNoise (q .byte-at .ensures i) (record { lfsr = n .lfsr; counter = n .counter }) (q .before .new .ensures i)) (ram i))) in
     let x = c .before .before .before .sound in
     let s = c .is-i16-at .ensures ∙ ap (λ (z : ℤ). z =ℤ? i16At r 1) (landed w16 {z = x .result .«current_sample»} (c .before .struct-told .given .1 .1 .1 .1 .1 .1 .0 .1) ∙ ap (λ (w : Voice). w .«current_sample») (x .ensures)) in
     (λ i. record { equal = (step .result .refusal =? 0) && s i; carry = carryOf (step .result .dsp) }) ∙ ap (λ (w : Answer). noiseSays w r) a

@@ -6,12 +6,18 @@ use Prim.Native.Nat.{_-_, _≤_}
 use native.Mathlib.Nat.{div-le-self}
 use native.Mathlib.Omega.{arith}
 use lib.ListN.{length}
+use Rattle.dsp.specs.Noise.{Noise}
+use Rattle.replay.specs.declared.records.Carry.{Carry}
 use Rattle.replay.proofs.Fronts.{UpTo, added, room, none, one-more, stops, ends}
 use Rattle.replay.proofs.parts.front_of.Statement.{statement}
 use Rattle.replay.proofs.parts.front_of.Tie as tie
 
+-- the noise that is handed on
+abbrev noiseIn : Carry → Noise
+noiseIn c = record { lfsr = c .lfsr; counter = c .counter }
+
 abbrev Inv-loop : tie.InvT-loop
-Inv-loop leaf part n count equal₀ handed₀ equal handed = (equal ≤ count) × UpTo leaf part handed₀ equal handed
+Inv-loop leaf part n count equal₀ handed₀ equal handed = (equal ≤ count) × UpTo leaf part (noiseIn handed₀) equal (noiseIn handed)
 
 abbrev μ-loop : tie.MeasureT-loop
 μ-loop leaf part n count equal₀ handed₀ equal handed = count - equal

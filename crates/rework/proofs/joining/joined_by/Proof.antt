@@ -4,7 +4,7 @@ use mathlib.Core.Path.{_≡_, refl, sym, ap, _∙_}
 use Prim.Native.Nat.{ℕ, _≤_, _-_}
 use native.Mathlib.Numerals.{add-one}
 use native.Mathlib.Omega.{arith}
-use Rattle.dsp.specs.Registers.{turns}
+use Rattle.numbers.specs.Listed.{turns}
 use Rattle.rework.specs.Members.{joinAfter, joinedBy}
 use Rattle.rework.proofs.joining.joined_by.Statement.{statement}
 use Rattle.rework.proofs.joining.joined_by.Tie as tie

@@ -8,8 +8,7 @@ use lib.ListN.{length}
 use borrow.Author.Tests.{eq-eqb, ne-eqb, not-true, not-false}
 use Rattle.numbers.specs.Choice.{if_then_else_, _=?_}
 use Rattle.log.specs.Log.{decode}
-use Rattle.rework.specs.declared.modes.Modes.{Modes}
-use Rattle.rework.specs.Members.{quiet, members}
+use Rattle.rework.specs.Members.{Fields, quiet, members}
 use Rattle.rework.specs.Rework.{refusalOf}
 use Rattle.rework.proofs.reworking.checked.Statement.{statement}
 use Rattle.rework.proofs.reworking.checked.Tie as tie
@@ -55,7 +54,7 @@ returns-7 c = let e : length (c .before .before .before .before .before .before 
 returns-8 : tie.Need-returns-8
 unfolding refusalOf
 returns-8 c = let e : length (c .before .before .before .before .before .before .before .before .before .before .before .before .before .before .before .before .before .before .before .before .args .ram .now) ≡ 0x10000 = omega (arith, c .before .before .before .before .before .before .before .before .before .before .before .before .before .before .before .before .if1 .left) in
-    (rw (eq-eqb _ _ e, sym (c .before .before .before .before .before .before .before .before .before .before .before .before .before .before .before .is-fit .ensures) ∙ not-false _ (c .before .before .before .before .before .before .before .before .before .before .before .before .before .before .if2 .left), sym (c .before .before .before .before .before .before .before .before .before .before .before .before .before .is-fit2 .ensures) ∙ not-false _ (c .before .before .before .before .before .before .before .before .before .before .before .before .if3 .left), ← c .before .before .before .before .before .before .before .before .before .before .before .measure .ensures, eq-eqb _ _ (c .before .before .before .before .before .before .before .before .before .if4 .left), ← c .before .before .before .before .before .before .before .before .measure2 .ensures, eq-eqb _ _ (c .before .before .before .before .before .before .if5 .left), sym (c .before .before .before .before .before .are-alike .ensures) ∙ not-false _ (c .before .before .before .before .if6 .left), sym (c .before .before .walk .ensures .0 ∙ ap (quiet (decode (c .before .before .before .before .before .before .before .before .before .before .before .before .before .before .before .before .before .before .before .before .args .new-log .now) .records)) (c .before .before .before .modes-of .ensures)) ∙ not-false _ (c .if7 .left)), c .before .before .walk .ensures .1 ∙ ap (λ (m : Modes). members (decode (c .before .before .before .before .before .before .before .before .before .before .before .before .before .before .before .before .before .before .before .before .args .new-log .now) .records) m (c .before .before .before .before .before .before .before .before .before .before .before .before .before .before .before .before .before .before .before .before .args .named)) (c .before .before .before .modes-of .ensures))
+    (rw (eq-eqb _ _ e, sym (c .before .before .before .before .before .before .before .before .before .before .before .before .before .before .before .is-fit .ensures) ∙ not-false _ (c .before .before .before .before .before .before .before .before .before .before .before .before .before .before .if2 .left), sym (c .before .before .before .before .before .before .before .before .before .before .before .before .before .is-fit2 .ensures) ∙ not-false _ (c .before .before .before .before .before .before .before .before .before .before .before .before .if3 .left), ← c .before .before .before .before .before .before .before .before .before .before .before .measure .ensures, eq-eqb _ _ (c .before .before .before .before .before .before .before .before .before .if4 .left), ← c .before .before .before .before .before .before .before .before .measure2 .ensures, eq-eqb _ _ (c .before .before .before .before .before .before .if5 .left), sym (c .before .before .before .before .before .are-alike .ensures) ∙ not-false _ (c .before .before .before .before .if6 .left), sym (c .before .before .walk .ensures .0 ∙ ap (quiet (decode (c .before .before .before .before .before .before .before .before .before .before .before .before .before .before .before .before .before .before .before .before .args .new-log .now) .records)) (c .before .before .before .modes-of .ensures)) ∙ not-false _ (c .if7 .left)), c .before .before .walk .ensures .1 ∙ ap (λ (m : Fields). members (decode (c .before .before .before .before .before .before .before .before .before .before .before .before .before .before .before .before .before .before .before .before .args .new-log .now) .records) m (c .before .before .before .before .before .before .before .before .before .before .before .before .before .before .before .before .before .before .before .before .args .named)) (c .before .before .before .modes-of .ensures))
 
 pub checked-spec : {M : Type 1} → statement M
 checked-spec =

@@ -7,7 +7,7 @@ use Rattle.dsp.proofs.adsr.Envelope.fallen_to.Tie as tie
 
 returns : tie.Need-returns
 unfolding fallenTo
-returns c = rw (eq-eqb _ _ (c .if1 .taken))
+returns c = λ s. rw (eq-eqb _ _ (c .if1 .taken))
 
 returns-2 : tie.Need-returns-2
 unfolding fallenTo

@@ -7,7 +7,7 @@ use Rattle.dsp.proofs.adsr.Envelope.risen.Tie as tie
 
 returns : tie.Need-returns
 unfolding risen
-returns c = rw (le-leb _ _ (c .if1 .taken))
+returns c = λ s. rw (le-leb _ _ (c .if1 .taken))
 
 returns-2 : tie.Need-returns-2
 unfolding risen

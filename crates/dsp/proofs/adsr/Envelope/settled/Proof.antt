@@ -7,7 +7,7 @@ use Rattle.dsp.proofs.adsr.Envelope.settled.Tie as tie
 
 returns : tie.Need-returns
 unfolding settled
-returns c = rw (← c .before .lowered .ensures, le-leb _ _ (c .if1 .taken))
+returns c = λ s. rw (← c .before .lowered .ensures, le-leb _ _ (c .if1 .taken))
 
 returns-2 : tie.Need-returns-2
 unfolding settled

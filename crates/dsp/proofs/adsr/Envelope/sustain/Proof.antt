@@ -1,21 +1,25 @@
--- By the tests, with the callees in the place of what they give.
+-- A timed step, as the clock's callee tells it; the level to fall to is lowered first.
 use borrow.Author.Needs.{needs}
-use mathlib.Core.Path.{_∙_, ap}
-use Prim.Native.Nat.{ℕ}
+use mathlib.Core.Path.{_∙_}
 use Rattle.dsp.specs.Envelope.{fallenTo, faded, sustainTick}
+use Rattle.dsp.specs.Inside.{asAdsr}
+use Rattle.dsp.proofs.Clocks.{steps, waits}
 use Rattle.dsp.proofs.adsr.Envelope.sustain.Statement.{statement}
 use Rattle.dsp.proofs.adsr.Envelope.sustain.Tie as tie
 
 returns : tie.Need-returns
 unfolding sustainTick
 returns c =
+    let s = c .before .before .before .before .before .before .args .s in
     let e = c .before .before .before .counted in
-    rw (← c .before .before .before .before .tick-due .ensures, c .before .before .if1 .taken)
-    (c .fallen-to .ensures ∙ ap (λ (l : ℕ). fallenTo l (e .result)) (c .before .lowered .ensures) ∙ ap faded (e .ensures))
+    c .fallen-to .ensures s ∙ (λ i. fallenTo (c .before .lowered .ensures i) (asAdsr s (e .result)))
+    ∙ steps (s .«sustain_rate») faded (asAdsr s (c .before .before .before .before .before .before .args .self)) _ _ _ (c .before .before .before .before .tick-due .ensures) (e .ensures s) (c .before .before .if1 .taken)
 
 returns-2 : tie.Need-returns-2
 unfolding sustainTick
-returns-2 c = rw (← c .before .before .tick-due .ensures, c .if1 .left) (c .before .counted .ensures)
+returns-2 c =
+    let a = c .before .before .before .before .args in
+    waits (a .s .«sustain_rate») faded (asAdsr (a .s) (a .self)) _ _ _ (c .before .before .tick-due .ensures) (c .before .counted .ensures (a .s)) (c .if1 .left)
 
 pub sustain-spec : {M : Type 1} → statement M
 sustain-spec =

@@ -7,6 +7,7 @@ use Rattle.sound.specs.Sound.{even}
 use Rattle.numbers.proofs.Range.{landed}
 use Rattle.dsp.specs.Mix.{withVoice}
 use Rattle.dsp.specs.Lane.{added}
+use Rattle.dsp.specs.Inside.{asStereo}
 use Rattle.dsp.proofs.lane.Acc.added.Statement.{statement}
 use Rattle.dsp.proofs.lane.Acc.added.Tie as tie
 
@@ -21,8 +22,8 @@ returns c =
     rw (c .before .before .if1 .taken)
     (λ i. record {
       prev = (landed w16 (c .even .ok) ∙ c .even .ensures ∙ ap even o) i;
-      dry = (c .before .before .before .before .with-voice .ensures ∙ (λ k. withVoice (o k) (l k) (r k) (a .self .dry))) i;
-      input = (c .before .with-voice2 .ensures ∙ (λ k. withVoice (o k) (l k) (r k) (a .self .input))) i;
+      dry = (c .before .before .before .before .with-voice .ensures ∙ (λ k. withVoice (o k) (l k) (r k) (asStereo (a .self .dry)))) i;
+      input = (c .before .with-voice2 .ensures ∙ (λ k. withVoice (o k) (l k) (r k) (asStereo (a .self .input)))) i;
     })
 
 returns-2 : tie.Need-returns-2
@@ -36,8 +37,8 @@ returns-2 c =
     rw (c .before .if1 .left)
     (λ i. record {
       prev = (landed w16 (c .even2 .ok) ∙ c .even2 .ensures ∙ ap even o) i;
-      dry = (c .before .before .before .with-voice .ensures ∙ (λ k. withVoice (o k) (l k) (r k) (a .self .dry))) i;
-      input = a .self .input;
+      dry = (c .before .before .before .with-voice .ensures ∙ (λ k. withVoice (o k) (l k) (r k) (asStereo (a .self .dry)))) i;
+      input = asStereo (a .self .input);
     })
 
 pub added-spec : {M : Type 1} → statement M

@@ -10,7 +10,7 @@ sample-spec =
     tie.close
     (tie.spec
     (λ c. search needs)
-    (λ c. let h = c .before .pre .lfsr in fits (search (q-upto, calls) depth 20) tt)
+    (λ c. let h = c .before .pre in fits (search (q-upto, calls) depth 20) tt)
     (λ c κs. search needs)
-    (λ c. let h = c .before .before .pre .lfsr in fits (search (q-upto, calls) depth 20) tt)
-    (λ c. let h = c .before .before .pre .lfsr in reads (search (q-upto, calls) depth 20) tt))
+    (λ c. let h = c .before .before .pre in fits (search (q-upto, calls) depth 20) tt)
+    (λ c. let h = c .before .before .pre in reads (search (q-upto, calls) depth 20) tt))

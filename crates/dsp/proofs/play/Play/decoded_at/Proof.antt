@@ -1,10 +1,13 @@
 -- The callees, with the read-backs of the two samples removed.
 use borrow.Author.Needs.{needs}
 use Prim.Native.Nat.{_<_}
+use mathlib.Core.Path.{_∙_, ap}
 use lib.Signed.{mag}
 use mir.Syntax.{w16}
 use Rattle.numbers.proofs.Range.{landed}
-use Rattle.dsp.specs.Voice.{placed, filled, decodedAt}
+use Rattle.dsp.specs.Brr.{decodeBlock}
+use Rattle.dsp.specs.Voice.{withBlock, decodedAt}
+use Rattle.dsp.specs.Inside.{asSounding}
 use Rattle.dsp.proofs.play.Play.decoded_at.Statement.{statement}
 use Rattle.dsp.proofs.play.Play.decoded_at.Tie as tie
 
@@ -13,14 +16,15 @@ small : (c : tie.After-decode-brr-block) → (mag (c .before .before .before .be
 small c = (search needs, search needs)
 
 returns : tie.Need-returns
-unfolding decodedAt placed filled
-returns c =
+unfolding decodedAt
+returns c v =
     let a = c .before .before .before .before .before .before .before .args in
     let s = small (c .before .before) in
     let e₁ = landed w16 {z = a .self .prev1} (s .0) in
     let e₂ = landed w16 {z = a .self .prev2} (s .1) in
-    rw (← e₁, ← e₂, ← c .before .before .decode-brr-block .ensures)
-    (λ i. record { play = c .placed .ensures i; samples = (c .before .before .decode-brr-block .ensures 0) .samples })
+    let d = c .before .before .decode-brr-block .ensures in
+    c .placed .ensures v (a .samples .now) (d 0 .samples)
+    ∙ ap (withBlock (a .at) (asSounding v (a .self) (a .samples .now))) (_∙_ {b = d 1} d (λ i. decodeBlock (a .ram .now) (a .at) (e₁ i) (e₂ i)))
 
 pub decoded-at-spec : {M : Type 1} → statement M
 decoded-at-spec =

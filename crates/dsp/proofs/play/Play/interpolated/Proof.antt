@@ -6,7 +6,7 @@ use Rattle.dsp.proofs.play.Play.interpolated.Tie as tie
 
 returns : tie.Need-returns
 unfolding interpolated
-returns c = rw (c .interpolate .ensures) (search needs)
+returns c v samples = rw (c .interpolate .ensures)
 
 pub interpolated-spec : {M : Type 1} → statement M
 interpolated-spec = tie.close (tie.spec (λ c κs. search needs) returns)

@@ -8,12 +8,12 @@ use Rattle.dsp.proofs.play.Play.next_address.Tie as tie
 
 returns : tie.Need-returns
 unfolding nextAddress
-returns c =
+returns c samples =
     rw (c .before .before .if1 .taken) (c .read-le16 .ensures ∙ rw (c .before .wrapping-add16 .ensures) (word-wraps _ _ _))
 
 returns-2 : tie.Need-returns-2
 unfolding nextAddress
-returns-2 c = rw (c .before .if1 .left) (c .wrapping-add162 .ensures)
+returns-2 c samples = rw (c .before .if1 .left) (c .wrapping-add162 .ensures)
 
 pub next-address-spec : {M : Type 1} → statement M
 next-address-spec =

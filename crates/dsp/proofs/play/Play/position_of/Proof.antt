@@ -7,11 +7,11 @@ use Rattle.dsp.proofs.play.Play.position_of.Tie as tie
 
 returns : tie.Need-returns
 unfolding positionOf
-returns c = rw (← c .before .pitch-of .ensures .0, le-leb _ _ (c .if1 .taken))
+returns c v samples e = rw (e, ← c .before .pitch-of .ensures .0, le-leb _ _ (c .if1 .taken))
 
 returns-2 : tie.Need-returns-2
 unfolding positionOf
-returns-2 c = rw (← c .before .pitch-of .ensures .0, lt-leb _ _ (c .if1 .left))
+returns-2 c v samples e = rw (e, ← c .before .pitch-of .ensures .0, lt-leb _ _ (c .if1 .left))
 
 pub position-of-spec : {M : Type 1} → statement M
 position-of-spec =

@@ -1,25 +1,26 @@
 -- By the fill.
 use borrow.Author.Needs.{needs}
-use mathlib.Core.Path.{_∙_, ap}
-use Prim.Native.Nat.{ℕ}
+use mathlib.Core.Path.{_≡_, _∙_, ap}
+use Prim.Native.Nat.{_+_}
 use native.Mathlib.Omega.{arith}
 use borrow.Author.Tests.{eq-eqb, ne-eqb}
-use Rattle.dsp.specs.Brr.{wordAt}
+use Rattle.dsp.specs.Ram.{wordAt}
 use Rattle.dsp.specs.Voice.{decodedAt, resolved}
+use Rattle.dsp.specs.Inside.{asSounding}
 use Rattle.dsp.proofs.play.Play.resolved.Statement.{statement}
 use Rattle.dsp.proofs.play.Play.resolved.Tie as tie
 
 returns : tie.Need-returns
 unfolding resolved
-returns c =
+returns c v =
     let a = c .before .before .before .before .before .before .before .args in
-    rw (eq-eqb _ _ (c .before .before .before .before .if1 .taken))
-    (c .before .decoded-at .ensures
-    ∙ ap (λ (n : ℕ). decodedAt (a .ram .now) n (record { play = a .self; samples = a .samples .now })) (c .before .before .before .read-le16 .ensures ∙ ap (wordAt (a .ram .now)) (omega arith)))
+    let z : a .self .addr + 0 ≡ a .self .addr = omega arith in
+    let n = c .before .before .before .read-le16 .ensures ∙ ap (wordAt (a .ram .now)) z in
+    rw (eq-eqb _ _ (c .before .before .before .before .if1 .taken)) (c .before .decoded-at .ensures v ∙ (λ i. decodedAt (a .ram .now) (n i) (asSounding v (a .self) (a .samples .now))))
 
 returns-2 : tie.Need-returns-2
 unfolding resolved
-returns-2 c = rw (ne-eqb _ _ (c .if1 .left))
+returns-2 c v = rw (ne-eqb _ _ (c .if1 .left))
 
 pub resolved-spec : {M : Type 1} → statement M
 resolved-spec =

@@ -1,85 +1,88 @@
 -- By idleness; each part keeps what the next one requires.
 use borrow.Author.Needs.{needs}
-use mathlib.Core.Path.{_≡_, _∙_, sym, ap, subst}
+use mathlib.Core.List.{[]}
+use mathlib.Core.Path.{_≡_, _∙_, refl, sym, ap, subst}
 use Prim.Native.Nat.{_/_, _≤_}
-use lib.ListN.{length}
-use Rattle.dsp.specs.Voice.{Sounding, FitBlock, withEnvelope, resolved, advanced, interpolated, shown, sounded, voiceStep}
+use Rattle.dsp.specs.Machine.{noVoice}
+use Rattle.dsp.specs.With.{withEnvelope}
 use Rattle.dsp.specs.Envelope.{envelopeTick}
-use Rattle.dsp.specs.declared.adsr.Envelope.{Envelope}
-use Rattle.dsp.proofs.Plays.{Apt, rests, plays, enveloped-apt, fit-apt, resolved-sized, resolved-ready, resolved-apt, advanced-apt, shown-apt}
+use Rattle.dsp.specs.Voice.{Sounding, advanced, interpolated, Stepped, shown, sounded, voiceStep}
+use Rattle.dsp.specs.Inside.{settingsOf, asAdsr, asVoice, asSource}
+use Rattle.dsp.specs.declared.adsr.Adsr.{Adsr}
+use Rattle.dsp.specs.declared.adsr.Settings.{Settings}
+use Rattle.dsp.specs.declared.voice.Voice.{Voice}
+use Rattle.dsp.proofs.Envelopes.{fit-kept-envelope}
+use Rattle.dsp.proofs.Plays.{Ready, resolved-ready, Low, low-played, pitched, rests, plays}
 use Rattle.dsp.proofs.play.Play.step.Statement.{statement}
 use Rattle.dsp.proofs.play.Play.step.Tie as tie
 
+-- what is left after the envelope
+abbrev onward : tie.After-update-envelope → Voice → Adsr → Stepped
+onward c v f =
+    let a = c .before .before .before .before .args in
+    sounded (a .ram .now) (a .dir) (a .srcn) (asSource (a .source)) (a .envx) (record { voice = withEnvelope (asVoice v (a .self) (a .samples .now)) f; endx = a .self .endx })
+
+-- the envelope of a voice with these settings
+ticked : (c : tie.After-update-envelope) (v : Voice) → settingsOf (v .adsr) ≡ c .before .before .before .before .args .s
+    → onward c v (asAdsr (settingsOf (v .adsr)) (c .update-envelope .result)) ≡ onward c v (envelopeTick (asAdsr (settingsOf (v .adsr)) (c .before .before .before .before .args .self .envelope)))
+ticked c v e =
+    ap (onward c v)
+    (subst (λ (s : Settings). asAdsr s (c .update-envelope .result) ≡ envelopeTick (asAdsr s (c .before .before .before .before .args .self .envelope))) (sym e) (c .update-envelope .ensures))
+
+-- its level
+low : (c : tie.After-update-envelope) → c .update-envelope .result .level ≤ 0x800
+low c =
+    let e = c .update-envelope .ensures in
+    subst (λ (a : Adsr). a .«envelope_level» ≤ 0x800) {x = e 1} (sym {b = e 1} e) (fit-kept-envelope _ (c .before .before .before .before .pre .4) .0)
+
 -- the block after the resolve
-after-resolve : (c : tie.After-resolved) → (length ((c .resolved .ensures 0) .samples) ≡ 16) × FitBlock ((c .resolved .ensures 0) .play)
+after-resolve : (c : tie.After-resolved) → Ready (c .resolved .ensures noVoice 0)
 after-resolve c =
-    let h = c .before .before .before .before .before .before .before .before .pre .5 .block in
-    let e = sym (c .resolved .ensures) in (
-      subst (λ (s : Sounding). length (s .samples) ≡ 16) e (resolved-sized _ _ (c .before .before .before .before .before .before .before .before .pre .3)),
-      subst (λ (s : Sounding). FitBlock (s .play)) e (resolved-ready _ _ (record { nibble = h .nibble; fill = h .fill })),
-    )
+    let s = c .before .before .before .before .before .before .before .before in
+    let e = c .resolved .ensures noVoice in
+    subst Ready {x = e 1} (sym {b = e 1} e) (resolved-ready _ _ (record { sized = s .pre .3; block = s .pre .5 }))
 
-after-advance : (c : tie.After-advanced) → Apt ((c .advanced .ensures 0) .play)
-after-advance c =
-    let s = c .before .before .before .before .before .before .before .before .before .before .before in
-    let a = s .args in
-    let q : Sounding = record { play = withEnvelope (a .self) (envelopeTick (a .s) (a .self .envelope)); samples = a .samples .now } in
-    let e = ap (λ (f : Envelope). resolved (a .ram .now) (record { play = withEnvelope (a .self) f; samples = a .samples .now })) (c .before .before .before .before .before .before .before .update-envelope .ensures) in
-    subst (λ (s : Sounding). Apt (s .play)) (sym (_∙_ {b = c .advanced .ensures 1} (c .advanced .ensures) (ap (advanced (a .ram .now) (a .dir) (a .srcn) (a .pitch) (a .source)) (c .before .before .before .resolved .ensures ∙ e))))
-    (advanced-apt (a .ram .now) (a .dir) (a .srcn) (a .pitch) (a .source) (resolved (a .ram .now) q)
-    (resolved-apt (a .ram .now) q (enveloped-apt (a .s) (a .self) (s .pre .4) (fit-apt (a .self) (s .pre .5)))))
-
--- the level after the samples
+-- and after the samples
 small : (c : tie.After-interpolated) → c .interpolated .result .envelope .level ≤ 0x800
-small c = rw (c .interpolated .ensures) (shown-apt _ (after-advance (c .before .before)) .envelope .level)
-
-update-envelope-requires : tie.Need-update-envelope-requires
-update-envelope-requires c κs =
-    (c .before .before .before .pre .1, c .before .before .before .pre .4, c .before .before .before .pre .5 .envelope)
+unfolding interpolated
+small c =
+    let a = c .before .before .before .before .before .before .before .before .before .before .before .before .before .args in
+    let v = pitched (a .pitch) in
+    let d = c .before .before .advanced .ensures v refl in
+    let e = _∙_ {b = d 1} d (ap (advanced (a .ram .now) (a .dir) (a .srcn) (asSource (a .source))) (c .before .before .before .before .before .resolved .ensures v)) in
+    let i = c .interpolated .ensures v [] in
+    let LowIn : Sounding → Type 0 = λ (s : Sounding). Low (s .voice) in
+    let k = subst LowIn {x = e 1} (sym {b = e 1} e) (low-played _ _ _ _ _ (low (c .before .before .before .before .before .before .before .before .before))) in
+    subst LowIn {x = i 1} (sym {b = i 1} i) k
 
 returns : tie.Need-returns
 unfolding voiceStep
-returns c =
+returns c v p e =
     let a = c .before .before .before .before .before .before .args in
-    let e = c .before .before .update-envelope .ensures in
-    rests _ _ _ _ _ _ (record { play = withEnvelope (a .self) (c .before .before .update-envelope .result); samples = a .samples .now }) (sym (c .before .is-idle .ensures) ∙ c .if1 .taken)
-    ∙ ap (λ (f : Envelope). sounded (a .ram .now) (a .dir) (a .srcn) (a .pitch) (a .source) (a .envx) (record { play = withEnvelope (a .self) f; samples = a .samples .now })) e
-
-resolved-requires : tie.Need-resolved-requires
-resolved-requires c κs =
-    (c .before .before .before .before .before .before .before .pre .2, c .before .before .before .before .before .before .before .pre .3)
-
-advanced-requires : tie.Need-advanced-requires
-advanced-requires c κs =
-    let r = after-resolve (c .before .before) in (c .before .before .before .before .before .before .before .before .before .before .pre .2, r .0, r .1)
-
-interpolated-requires : tie.Need-interpolated-requires
-interpolated-requires c κs =
-    c .before .before .before .before .before .before .before .before .before .before .before .before .pre .0
+    rests _ _ _ _ _ _ (sym (c .before .is-idle .ensures v (a .samples .now)) ∙ c .if1 .taken) ∙ ticked (c .before .before) v e
 
 returns-2 : tie.Need-returns-2
-unfolding voiceStep
-returns-2 c =
+unfolding voiceStep interpolated
+returns-2 c v p e =
     let a = c .before .before .before .before .before .before .before .before .before .before .before .before .before .before .before .args in
-    let e = c .before .before .before .before .before .before .before .before .before .before .before .update-envelope .ensures in
-    let i = c .before .before .interpolated .ensures in
-    let d = c .before .before .before .before .advanced .ensures in
-    let q = _∙_ {b = d 1} d (ap (advanced (a .ram .now) (a .dir) (a .srcn) (a .pitch) (a .source)) (c .before .before .before .before .before .before .before .resolved .ensures)) in
-    (λ j. record { play = i j; samples = d 0 .samples; envx = i j .envelope .level / 16 })
+    let d = c .before .before .before .before .advanced .ensures v p in
+    let i = c .before .before .interpolated .ensures v (d 0 .voice .brr .«sample_buffer») in
+    let q = _∙_ {b = d 1} d (ap (advanced (a .ram .now) (a .dir) (a .srcn) (asSource (a .source))) (c .before .before .before .before .before .before .before .resolved .ensures v)) in
+    (λ j. record { sounding = i j; envx = i j .voice .adsr .«envelope_level» / 16 })
     ∙ ap shown q
-    ∙ plays _ _ _ _ _ (a .envx) (record { play = withEnvelope (a .self) (c .before .before .before .before .before .before .before .before .before .before .before .update-envelope .result); samples = a .samples .now }) (sym (c .before .before .before .before .before .before .before .before .before .before .is-idle .ensures) ∙ c .before .before .before .before .before .before .before .before .before .if1 .left)
-    ∙ ap (λ (f : Envelope). sounded (a .ram .now) (a .dir) (a .srcn) (a .pitch) (a .source) (a .envx) (record { play = withEnvelope (a .self) f; samples = a .samples .now })) e
+    ∙ plays _ _ _ _ _ _ (sym (c .before .before .before .before .before .before .before .before .before .before .is-idle .ensures v (a .samples .now)) ∙ c .before .before .before .before .before .before .before .before .before .if1 .left)
+    ∙ ticked (c .before .before .before .before .before .before .before .before .before .before .before) v e
 
 pub step-spec : {M : Type 1} → statement M
 step-spec =
     tie.close
     (tie.spec
-    update-envelope-requires
+    (λ c κs. (c .before .before .before .pre .1, c .before .before .before .pre .4))
     (λ c κs. search needs)
     returns
-    resolved-requires
-    advanced-requires
-    interpolated-requires
+    (λ c κs. (c .before .before .before .before .before .before .before .pre .2, c .before .before .before .before .before .before .before .pre .3))
+    (λ c κs. let r = after-resolve (c .before .before) in (c .before .before .before .before .before .before .before .before .before .before .pre .2, r .sized, r .block))
+    (λ c κs. c .before .before .before .before .before .before .before .before .before .before .before .before .pre .0)
     (λ c. let h = small (c .before .before) in search needs)
     (λ c. search needs)
     returns-2)

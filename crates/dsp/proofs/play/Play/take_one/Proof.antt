@@ -1,33 +1,31 @@
 -- By the nibble index.
 use borrow.Author.Needs.{needs}
-use mathlib.Core.Path.{_≡_, _∙_, ap}
-use lib.IntN.{ℤ, pos}
-use lib.ListN.{getD}
+use mathlib.Core.Path.{_≡_, _∙_, ap, sym}
 use borrow.Author.Tests.{eq-eqb, ne-eqb}
 use mir.Syntax.{w16}
 use Rattle.numbers.proofs.Range.{landed}
-use Rattle.dsp.specs.Voice.{pushed, takeOne}
-use Rattle.dsp.specs.declared.play.Play.{Play}
+use Rattle.dsp.specs.Voice.{pushedNext, nextBlock, takeOne}
+use Rattle.dsp.specs.Inside.{asSounding}
+use Rattle.dsp.specs.declared.voice.Voice.{Voice}
 use Rattle.dsp.proofs.play.Play.take_one.Statement.{statement}
 use Rattle.dsp.proofs.play.Play.take_one.Tie as tie
 
 -- the sample that is pushed is the buffer's, of 16 bits
-is-pushed : (c : tie.After-push-history) → c .push-history .result ≡ pushed (getD (c .before .before .before .before .args .samples .now) (c .before .before .before .before .args .self .«nibble_idx») (pos 0)) (c .before .before .before .before .args .self)
-is-pushed c =
-    c .push-history .ensures ∙ ap (λ (x : ℤ). pushed x (c .before .before .before .before .args .self)) (landed w16 (c .before .push-history-arg .given))
+is-pushed : (c : tie.After-push-history) (v : Voice)
+    → asSounding v (c .push-history .result) (c .before .before .before .before .args .samples .now) ≡ pushedNext (asSounding v (c .before .before .before .before .args .self) (c .before .before .before .before .args .samples .now))
+is-pushed c v =
+    c .push-history .ensures v (c .before .before .before .before .args .samples .now) (sym (landed w16 (c .before .push-history-arg .given)))
 
 returns : tie.Need-returns
 unfolding takeOne
-returns c =
+returns c v =
     let a = c .before .before .before .before .before .before .before .before .before .args in
-    let h = is-pushed (c .before .before .before .before .before) in
-    rw (eq-eqb _ _ (c .before .before .before .if1 .taken), ← h) (c .before .next-block .ensures)
+    let h = is-pushed (c .before .before .before .before .before) v in
+    rw (eq-eqb _ _ (c .before .before .before .if1 .taken)) (let n = c .before .next-block .ensures v in _∙_ {b = n 1} n (ap (nextBlock (a .ram .now) (a .dir) (a .srcn)) h))
 
 returns-2 : tie.Need-returns-2
 unfolding takeOne
-returns-2 c =
-    let a = c .before .before .before .before .before .before .args in
-    rw (ne-eqb _ _ (c .if1 .left)) (ap (λ (p : Play). record { play = p; samples = a .samples .now }) (is-pushed (c .before .before)))
+returns-2 c v = rw (ne-eqb _ _ (c .if1 .left)) (is-pushed (c .before .before) v)
 
 pub take-one-spec : {M : Type 1} → statement M
 take-one-spec =

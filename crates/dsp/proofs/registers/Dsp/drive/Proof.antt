@@ -12,26 +12,25 @@ use mir.Syntax.{w16}
 use borrow.Rule.Slice.PartMut.{midOf, mid-len}
 use Rattle.numbers.proofs.Range.{landed}
 use Rattle.numbers.proofs.Parts.{unwritten, sized, all-written}
-use Rattle.dsp.specs.Machine.{noVoice, Parts, apart}
-use Rattle.dsp.specs.Fit.{FitGlob, Fit}
-use Rattle.dsp.specs.Noise.{FitNoise}
+use Rattle.dsp.specs.Machine.{Globals, Parts, apart, noVoice}
+use Rattle.dsp.specs.Fit.{FitGlobals, Fit}
 use Rattle.dsp.specs.Sheet.{pairBytes}
-use Rattle.dsp.specs.Lane.{turned}
-use Rattle.dsp.specs.Tick.{Bench, frameOf, ticksOf}
+use Rattle.dsp.specs.Lane.{turned, Sums}
+use Rattle.dsp.specs.Tick.{globalsTick, frameOf}
+use Rattle.dsp.specs.Ticks.{Bench, ticksOf}
+use Rattle.dsp.specs.Inside.{asShared, asSums, asGlobals}
 use Rattle.dsp.specs.declared.voice.Voice.{Voice}
-use Rattle.dsp.specs.declared.lane.Acc.{Acc}
-use Rattle.dsp.specs.declared.registers.Glob.{Glob}
-use Rattle.dsp.proofs.Ticks.{glob-kept, bench-fit}
+use Rattle.dsp.proofs.Ticks.{globals-kept, bench-fit}
 use Rattle.dsp.proofs.Drives.{roundOf, Lanes, lanes-first, lane-on, lanes-sized, benchAt, Driven, tick-on}
 use Rattle.dsp.proofs.registers.Dsp.drive.Statement.{statement}
 use Rattle.dsp.proofs.registers.Dsp.drive.Tie as tie
 
-abbrev partsOf : List ℕ → List Voice → List ℕ → List ℤ → List ℤ → List ℤ → Glob → Parts
-partsOf bytes voices delays taps left right g = record { registers = bytes; voices = voices; delays = delays; taps = taps; left = left; right = right; glob = g }
+abbrev partsOf : List ℕ → List Voice → List ℕ → List ℤ → List ℤ → List ℤ → Globals → Parts
+partsOf bytes voices delays taps left right g = record { registers = bytes; voices = voices; delays = delays; taps = taps; left = left; right = right; globals = g }
 
 abbrev Inv-loop2 : tie.InvT-loop2
 Inv-loop2 self work ram n pcm sheet₀ table rates taps bytes₀ voices₀ delays₀ left right i h c acc₀ v₀ sheet bytes voices delays acc v =
-    (v ≤ 8) × Lanes (work .voices) c ram sheet₀ (i * 36) (roundOf voices₀ delays₀ bytes₀ acc₀ []) v sheet voices delays bytes acc
+    (v ≤ 8) × Lanes (work .voices) (asShared c) ram sheet₀ (i * 36) (roundOf voices₀ delays₀ bytes₀ (asSums acc₀) []) v sheet voices delays bytes (asSums acc)
 
 abbrev μ-loop2 : tie.MeasureT-loop2
 μ-loop2 self work ram n pcm sheet₀ table rates taps bytes₀ voices₀ delays₀ left right i h c acc₀ v₀ sheet bytes voices delays acc v =
@@ -40,7 +39,7 @@ abbrev μ-loop2 : tie.MeasureT-loop2
 abbrev Inv-loop : tie.InvT-loop
 Inv-loop self work ram₀ n pcm₀ sheet₀ table rates taps bytes₀ voices₀ delays₀ left₀ right₀ g₀ i₀ ram pcm sheet bytes voices delays left right g i =
     (i ≤ n)
-    × Driven work pcm₀ sheet₀ (benchAt (partsOf bytes₀ voices₀ delays₀ taps left₀ right₀ g₀) ram₀ [] [] sheet₀) i pcm sheet (partsOf bytes voices delays taps left right g) ram
+    × Driven work pcm₀ sheet₀ (benchAt (partsOf bytes₀ voices₀ delays₀ taps left₀ right₀ (asGlobals g₀)) ram₀ [] [] sheet₀) i pcm sheet (partsOf bytes voices delays taps left right (asGlobals g)) ram
 
 abbrev μ-loop : tie.MeasureT-loop
 μ-loop self work ram₀ n pcm₀ sheet₀ table rates taps bytes₀ voices₀ delays₀ left₀ right₀ g₀ i₀ ram pcm sheet bytes voices delays left right g i =
@@ -98,7 +97,7 @@ sample-room c =
 abbrev first : (c : tie.After-glob Inv-loop2 μ-loop2 Inv-loop μ-loop) → Bench
 first c =
     let a = c .before .before .before .before .before .before .before .before .before .before .before .before .args in
-    benchAt (partsOf (c .before .before .before .before .before .bytes .result) (c .before .before .before .before .lanes .result) (c .before .before .before .delays .result) (a .self .«fir_coeff») (a .self .«fir_history_l») (a .self .«fir_history_r») (c .glob .result)) (a .ram .now) [] [] (a .sheet .now)
+    benchAt (partsOf (c .before .before .before .before .before .bytes .result) (c .before .before .before .before .lanes .result) (c .before .before .before .delays .result) (a .self .«fir_coeff») (a .self .«fir_history_l») (a .self .«fir_history_r») (asGlobals (c .glob .result))) (a .ram .now) [] [] (a .sheet .now)
 
 loop-holds : tie.Need-loop-holds Inv-loop2 μ-loop2 Inv-loop μ-loop
 unfolding ticksOf
@@ -111,7 +110,7 @@ loop-holds c = let h = c .before .before .before .before .before .before .before
         record {
           ram = c .before .before .before .before .before .before .before .before .before .before .before .before .pre .0;
           round = record { bytes = bytes-sized (c .before .before .before .before .before); count = voices-sized (c .before .before .before .before); waits = delays-sized (c .before .before .before); voices = rw (c .before .before .before .before .lanes .ensures) (h .voices); delays = rw (c .before .before .before .delays .ensures) (h .delays) };
-          glob = rw (c .glob .ensures) (h .glob);
+          globals = subst FitGlobals (sym (c .glob .ensures)) (h .globals);
         };
     is = refl {a = first c};
     put-out = unwritten _;
@@ -120,7 +119,7 @@ loop-holds c = let h = c .before .before .before .before .before .before .before
 )
 
 ticked-requires : tie.Need-ticked-requires Inv-loop2 μ-loop2 Inv-loop μ-loop
-ticked-requires c κs = (c .before .before .before .before .before .before .before .before .before .before .rate-table .ensures, c .before .before .loop .inv .1 .fit .glob)
+ticked-requires c κs = (c .before .before .before .before .before .before .before .before .before .before .rate-table .ensures, c .before .before .loop .inv .1 .fit .globals)
 
 array-read-shared : tie.Need-array-read-shared Inv-loop2 μ-loop2 Inv-loop μ-loop
 array-read-shared c = omega (arith, c .before .before .before .loop .inv .1 .fit .round .bytes)
@@ -129,13 +128,13 @@ array-read-shared-2 : tie.Need-array-read-shared-2 Inv-loop2 μ-loop2 Inv-loop �
 array-read-shared-2 c = omega (arith, c .before .before .before .loop .inv .1 .fit .round .bytes)
 
 shared-requires : tie.Need-shared-requires Inv-loop2 μ-loop2 Inv-loop μ-loop
-shared-requires c κs = subst (λ (g : Glob). FitNoise (g .noise)) (sym (c .ticked .ensures)) (let k = glob-kept _ (c .before .before .before .loop .inv .1 .fit .glob) in record { lfsr = k .lfsr; counter = k .counter })
+shared-requires c κs = subst (λ (g : Globals). g .noise .lfsr ≤ 0x7FFF) (sym (c .ticked .ensures)) (globals-kept _ (c .before .before .before .loop .inv .1 .fit .globals) .1 .0)
 
 loop2-holds : tie.Need-loop2-holds Inv-loop2 μ-loop2 Inv-loop μ-loop
 loop2-holds c = let s = c .before .before .before .before .before .loop in
     let r = s .inv .1 .fit .round in
     let z = row-room (c .before .before .before) in
-    (search needs, lanes-first _ _ _ (s .sheet) (s .i * 36) (s .voices) (s .delays) (s .bytes) (c .new .result) (omega (arith, z)) (record { bytes = r .bytes; count = r .count; waits = r .waits; voices = r .voices; delays = r .delays }))
+    (search needs, lanes-first _ _ _ (s .sheet) (s .i * 36) (s .voices) (s .delays) (s .bytes) (asSums (c .new .result)) (omega (arith, z)) (record { bytes = r .bytes; count = r .count; waits = r .waits; voices = r .voices; delays = r .delays }))
 
 array-copy-out-x : tie.Need-array-copy-out-x Inv-loop2 μ-loop2 Inv-loop μ-loop
 array-copy-out-x c = omega (arith, c .before .loop2 .inv .1 .fit .count)
@@ -178,7 +177,7 @@ lane-requires c κs = let l = c .before .before .before .before .before .before 
     let r = l .inv .1 .fit in
     let t : l .v < 8 = c .before .before .before .before .before .before .before .loop2-test .taken in
     let m = mid-len (c .before .before .before .before .before .before .before .before .before .before .before .before .before .before .loop .i * 36 + l .v * 4) (c .before .before .before .before .before .before .before .before .before .before .before .before .before .before .loop .i * 36 + l .v * 4 + 4) (l .sheet) (lane-room (c .before .before .before .before .before .before)) in
-    (c .before .before .before .before .before .before .before .before .before .before .before .before .before .before .before .before .before .before .before .before .before .before .before .gauss-table .ensures, c .before .before .before .before .before .before .before .before .before .before .before .before .before .before .before .before .before .before .before .before .before .before .rate-table .ensures, c .before .before .before .before .before .before .before .before .before .before .before .before .before .before .loop .inv .1 .fit .ram, r .bytes, t, r .voices _ t, r .delays _ t, m ∙ omega arith)
+    (c .before .before .before .before .before .before .before .before .before .before .before .before .before .before .before .before .before .before .before .before .before .before .before .gauss-table .ensures, c .before .before .before .before .before .before .before .before .before .before .before .before .before .before .before .before .before .before .before .before .before .before .rate-table .ensures, c .before .before .before .before .before .before .before .before .before .before .before .before .before .before .loop .inv .1 .fit .ram, r .bytes, t, r .voices _, r .delays _ .0, m ∙ omega arith)
 
 array-set-from-voices : tie.Need-array-set-from-voices Inv-loop2 μ-loop2 Inv-loop μ-loop
 array-set-from-voices c = omega (arith, c .before .before .before .before .before .before .before .before .before .before .before .before .before .loop2 .inv .1 .fit .count, c .before .before .before .before .before .before .before .before .before .before .before .before .loop2-test .taken)
@@ -194,8 +193,8 @@ loop2-again c = let l = c .before .before .before .before .before .before .befor
     let at = i * 36 + l .v * 4 in
     let m = mid-len at (at + 4) (l .sheet) (lane-room (c .before .before .before .before .before .before .before .before .before .before .before .before)) in
     let y = c .before .before .before .before .before .lane .ensures in
-    let e = _∙_ {a = y 0} {b = y 1} y (λ k. turned (worked k) (c .before .before .before .before .before .before .before .before .before .before .before .before .before .before .before .before .shared .result) (c .before .before .before .before .before .before .before .before .before .before .before .before .before .before .before .before .before .before .before .before .loop .ram) (l .v) (getD (l .voices) (l .v) noVoice) (getD (l .delays) (l .v) 0) (l .acc) (l .bytes) (midOf at (at + 4 - at) (l .sheet))) in
-    (search needs, lane-on _ _ _ _ (i * 36) _ (l .v) (l .sheet) (l .voices) (l .delays) (l .bytes) (l .acc) at (at + 4) (y 0) (l .inv .1) t refl refl (m ∙ omega arith) e)
+    let e = _∙_ {a = y 0} {b = y 1} y (λ k. turned (worked k) (asShared (c .before .before .before .before .before .before .before .before .before .before .before .before .before .before .before .before .shared .result)) (c .before .before .before .before .before .before .before .before .before .before .before .before .before .before .before .before .before .before .before .before .loop .ram) (l .v) (getD (l .voices) (l .v) noVoice) (getD (l .delays) (l .v) 0) (asSums (l .acc)) (l .bytes) (midOf at (at + 4 - at) (l .sheet))) in
+    (search needs, lane-on _ _ _ _ (i * 36) _ (l .v) (l .sheet) (l .voices) (l .delays) (l .bytes) (asSums (l .acc)) at (at + 4) (y 0) (l .inv .1) t refl refl (m ∙ omega arith) e)
 
 mul-at-3 : tie.Need-mul-at-3 Inv-loop2 μ-loop2 Inv-loop μ-loop
 mul-at-3 c = let p = c .before .before .before .before .before .before .before .before .before .before .before .before .before .before .before .before .before .before .before .before .pre .2 in let t = c .before .before .before .before .before .before .loop-test .taken in record { fits = omega (arith, p, t) }
@@ -218,7 +217,7 @@ part-echo-lane-end c = echo-room c
 echo-lane-requires : tie.Need-echo-lane-requires Inv-loop2 μ-loop2 Inv-loop μ-loop
 echo-lane-requires c κs = let i = c .before .before .before .before .before .before .before .before .before .loop .i in
     let m = mid-len (i * 36 + 32) (i * 36 + 32 + 4) (c .before .before .before .loop2 .sheet) (echo-room (c .before)) in
-    (c .before .before .before .before .before .before .before .before .before .loop .inv .1 .fit .ram, subst FitGlob (sym (c .before .before .before .before .before .before .ticked .ensures)) (glob-kept _ (c .before .before .before .before .before .before .before .before .before .loop .inv .1 .fit .glob)), m ∙ omega arith)
+    (c .before .before .before .before .before .before .before .before .before .loop .inv .1 .fit .ram, subst FitGlobals (sym (c .before .before .before .before .before .before .ticked .ensures)) (globals-kept _ (c .before .before .before .before .before .before .before .before .before .loop .inv .1 .fit .globals)), m ∙ omega arith)
 
 sub-put-pair : tie.Need-sub-put-pair Inv-loop2 μ-loop2 Inv-loop μ-loop
 sub-put-pair c = omega arith
@@ -243,20 +242,21 @@ add-i : tie.Need-add-i Inv-loop2 μ-loop2 Inv-loop μ-loop
 add-i c = let p = c .before .before .before .before .before .before .before .before .before .before .before .before .before .before .before .before .before .before .before .before .before .before .before .before .before .before .before .before .before .before .before .before .before .before .before .before .before .pre .2 in let t = c .before .before .before .before .before .before .before .before .before .before .before .before .before .before .before .before .before .before .before .before .before .before .before .loop-test .taken in record { fits = omega (arith, p, t) }
 
 loop-again : tie.Need-loop-again Inv-loop2 μ-loop2 Inv-loop μ-loop
+unfolding globalsTick
 loop-again c = let s = c .before .before .before .before .before .before .before .before .before .before .before .before .before .before .before .before .before .before .before .before .before .before .before .before .loop in
     let l = c .before .before .before .before .before .before .before .before .before .before .before .before .before .before .before .before .before .before .loop2 in
     let y = c .before .before .before .before .before .before .before .before .before .before .before .before .before .before .echo-lane .ensures in
     let a = s .i * 36 + 32 in
     let o = s .i * 4 in
     let v : l .v ≡ 8 = omega (arith, c .before .before .before .before .before .before .before .before .before .before .before .before .before .before .before .before .before .loop2-test .left, l .inv .0) in
-    let w = subst (λ (k : ℕ). Lanes (c .before .before .before .before .before .before .before .before .before .before .before .before .before .before .before .before .before .before .before .before .before .before .before .before .before .before .before .before .before .before .before .before .before .before .before .before .before .args .work .voices) (c .before .before .before .before .before .before .before .before .before .before .before .before .before .before .before .before .before .before .before .before .shared .result) (s .ram) (s .sheet) (s .i * 36) (roundOf (s .voices) (s .delays) (s .bytes) (c .before .before .before .before .before .before .before .before .before .before .before .before .before .before .before .before .before .before .before .new .result) []) k (l .sheet) (l .voices) (l .delays) (l .bytes) (l .acc)) v (l .inv .1) in
-    let z = subst (λ (q : Acc). Lanes (c .before .before .before .before .before .before .before .before .before .before .before .before .before .before .before .before .before .before .before .before .before .before .before .before .before .before .before .before .before .before .before .before .before .before .before .before .before .args .work .voices) (c .before .before .before .before .before .before .before .before .before .before .before .before .before .before .before .before .before .before .before .before .shared .result) (s .ram) (s .sheet) (s .i * 36) (roundOf (s .voices) (s .delays) (s .bytes) q []) 8 (l .sheet) (l .voices) (l .delays) (l .bytes) (l .acc)) (c .before .before .before .before .before .before .before .before .before .before .before .before .before .before .before .before .before .before .before .new .ensures) w in
+    let w = subst (λ (k : ℕ). Lanes (c .before .before .before .before .before .before .before .before .before .before .before .before .before .before .before .before .before .before .before .before .before .before .before .before .before .before .before .before .before .before .before .before .before .before .before .before .before .args .work .voices) (asShared (c .before .before .before .before .before .before .before .before .before .before .before .before .before .before .before .before .before .before .before .before .shared .result)) (s .ram) (s .sheet) (s .i * 36) (roundOf (s .voices) (s .delays) (s .bytes) (asSums (c .before .before .before .before .before .before .before .before .before .before .before .before .before .before .before .before .before .before .before .new .result)) []) k (l .sheet) (l .voices) (l .delays) (l .bytes) (asSums (l .acc))) v (l .inv .1) in
+    let z = subst (λ (q : Sums). Lanes (c .before .before .before .before .before .before .before .before .before .before .before .before .before .before .before .before .before .before .before .before .before .before .before .before .before .before .before .before .before .before .before .before .before .before .before .before .before .args .work .voices) (asShared (c .before .before .before .before .before .before .before .before .before .before .before .before .before .before .before .before .before .before .before .before .shared .result)) (s .ram) (s .sheet) (s .i * 36) (roundOf (s .voices) (s .delays) (s .bytes) q []) 8 (l .sheet) (l .voices) (l .delays) (l .bytes) (asSums (l .acc))) (c .before .before .before .before .before .before .before .before .before .before .before .before .before .before .before .before .before .before .before .new .ensures) w in
     let m = mid-len a (a + 4) (l .sheet) (echo-room (c .before .before .before .before .before .before .before .before .before .before .before .before .before .before .before .before)) in
     let sl = landed w16 {z = c .before .before .before .before .before .before .mastered .result .l} (c .before .before .before .before .struct-told .given .0 .1) in
     let sr = landed w16 {z = c .before .before .before .before .before .before .mastered .result .r} (c .before .before .before .struct-told2 .given .1 .0 .1) in
     let f = c .before .before .put-pair .ensures ∙ (λ k. pairBytes (sl k) (sr k)) ∙ ap frameOf (c .before .before .before .before .before .before .mastered .ensures) in
     let t : s .i < c .before .before .before .before .before .before .before .before .before .before .before .before .before .before .before .before .before .before .before .before .before .before .before .before .before .before .before .before .before .before .before .before .before .before .before .before .before .args .n = c .before .before .before .before .before .before .before .before .before .before .before .before .before .before .before .before .before .before .before .before .before .before .before .loop-test .taken in
-    (omega (arith, t), tick-on _ _ _ (first (c .before .before .before .before .before .before .before .before .before .before .before .before .before .before .before .before .before .before .before .before .before .before .before .before .before)) (s .i) (s .pcm) (s .sheet) _ (s .ram) _ _ (l .sheet) (l .voices) (l .delays) (l .bytes) (l .acc) a (a + 4) o (o + 4) (y 0) _ (s .inv .1) (c .before .before .before .before .before .before .before .before .before .before .before .before .before .before .before .before .before .before .before .before .before .ticked .ensures) (c .before .before .before .before .before .before .before .before .before .before .before .before .before .before .before .before .before .before .before .before .shared .ensures) z refl refl (m ∙ omega arith) y refl refl f)
+    (omega (arith, t), tick-on _ _ _ (first (c .before .before .before .before .before .before .before .before .before .before .before .before .before .before .before .before .before .before .before .before .before .before .before .before .before)) (s .i) (s .pcm) (s .sheet) _ (s .ram) _ _ (l .sheet) (l .voices) (l .delays) (l .bytes) (asSums (l .acc)) a (a + 4) o (o + 4) (y 0) _ (s .inv .1) (c .before .before .before .before .before .before .before .before .before .before .before .before .before .before .before .before .before .before .before .before .before .ticked .ensures) (c .before .before .before .before .before .before .before .before .before .before .before .before .before .before .before .before .before .before .before .before .shared .ensures (s .bytes) refl refl (ap (λ (g : Globals). g .noise) (c .before .before .before .before .before .before .before .before .before .before .before .before .before .before .before .before .before .before .before .before .before .ticked .ensures))) z refl refl (m ∙ omega arith) y refl refl f)
 
 same-length : tie.Need-same-length Inv-loop2 μ-loop2 Inv-loop μ-loop
 same-length c = c .before .before .loop .inv .1 .fit .ram ∙ sym (c .before .before .before .before .before .before .before .before .before .before .before .before .before .before .before .pre .0)

@@ -1,7 +1,9 @@
--- By the test, which gives the levels that the dry sum asks for.
+-- By the test, which gives the levels that the dry sum asks for. Both sides are read back from their bits.
 use borrow.Author.Needs.{needs}
-use mathlib.Core.Path.{_∙_, sym}
-use Rattle.dsp.specs.Mix.{renderOf}
+use mathlib.Core.Path.{_∙_, sym, ap}
+use mir.Syntax.{w16}
+use Rattle.numbers.proofs.Range.{landed}
+use Rattle.dsp.specs.Mix.{Stereo, masterOf, renderOf}
 use Rattle.dsp.proofs.Fits.{fit-facts}
 use Rattle.dsp.proofs.registers.Dsp.render_audio_single.Statement.{statement}
 use Rattle.dsp.proofs.registers.Dsp.render_audio_single.Tie as tie
@@ -9,14 +11,16 @@ use Rattle.dsp.proofs.registers.Dsp.render_audio_single.Tie as tie
 dry-requires : tie.Need-dry-requires
 dry-requires c κs =
     let f = fit-facts _ (sym (c .before .before .before .is-fit .ensures) ∙ c .before .before .if1 .taken) in
-    record { most = λ n l. f .voices n l .adsr .level }
+    λ n. f .voices n .1 .1 .0
 
 returns : tie.Need-returns
 unfolding renderOf
 returns c =
     let s = c .before .before in
-    rw (← s .before .before .before .before .is-fit .ensures, s .before .before .before .if1 .taken, ← s .before .glob .ensures, ← s .dry .ensures, ← c .before .mastered .ensures)
-    (search needs)
+    let e = c .before .mastered .ensures ∙ (λ i. masterOf (s .before .glob .ensures i) (s .dry .ensures i)) in
+    let l = landed w16 {z = c .before .mastered .result .l} (c .struct-told .given .0 .1) in
+    let r = landed w16 {z = c .before .mastered .result .r} (c .struct-told .given .1 .0 .1) in
+    rw (← s .before .before .before .before .is-fit .ensures, s .before .before .before .if1 .taken) (λ i. record { refusal = 0; left = (l ∙ ap (λ (x : Stereo). x .l) e) i; right = (r ∙ ap (λ (x : Stereo). x .r) e) i })
 
 returns-2 : tie.Need-returns-2
 unfolding renderOf

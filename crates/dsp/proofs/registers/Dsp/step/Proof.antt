@@ -6,7 +6,7 @@ use native.Mathlib.Omega.{arith}
 use lib.ListN.{length}
 use borrow.Author.Tests.{eq-eqb, ne-eqb}
 use Rattle.dsp.specs.Machine.{apart, together}
-use Rattle.dsp.specs.Tick.{Bench, After, ticked, refused, benchTick, ticksOf, stepOf}
+use Rattle.dsp.specs.Ticks.{Bench, After, ticked, refused, benchTick, ticksOf, stepOf}
 use Rattle.dsp.proofs.Fits.{fit-facts}
 use Rattle.dsp.proofs.Whole.{tick-whole}
 use Rattle.dsp.proofs.registers.Dsp.step.Statement.{statement}

@@ -5,7 +5,7 @@ use native.Mathlib.Omega.{arith}
 use lib.ListN.{length}
 use borrow.Author.Tests.{eq-eqb, ne-eqb, not-true, not-false}
 use Rattle.dsp.specs.Fit.{fit}
-use Rattle.dsp.specs.Tick.{drove, undriven, driveOf}
+use Rattle.dsp.specs.Ticks.{drove, undriven, driveOf}
 use Rattle.dsp.proofs.Fits.{fit-facts, facts-fit}
 use Rattle.dsp.proofs.registers.Dsp.ticks.Statement.{statement}
 use Rattle.dsp.proofs.registers.Dsp.ticks.Tie as tie

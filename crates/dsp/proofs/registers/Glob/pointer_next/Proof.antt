@@ -2,12 +2,13 @@
 use borrow.Author.Needs.{needs}
 use borrow.Author.Tests.{le-leb, lt-leb}
 use Rattle.dsp.specs.Echo.{pointerNext}
+use Rattle.dsp.specs.Inside.{asGlobals}
 use Rattle.dsp.proofs.Echoes.{pointer-low}
 use Rattle.dsp.proofs.registers.Glob.pointer_next.Statement.{statement}
 use Rattle.dsp.proofs.registers.Glob.pointer_next.Tie as tie
 
 add-next : tie.Need-add-next
-add-next c = let h = pointer-low _ (c .before .pre) in search needs
+add-next c = let h = pointer-low (asGlobals (c .before .args .self)) (c .before .pre) in search needs
 
 returns : tie.Need-returns
 unfolding pointerNext

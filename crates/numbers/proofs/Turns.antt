@@ -1,10 +1,10 @@
--- What turns and stores into a list keep.
-use mathlib.Core.List.{List, [], _∷_}
-use mathlib.Core.Path.{_≡_, refl, ap, _∙_}
+-- What turns and stores into a list keep, and the folds over a list as turns.
+use mathlib.Core.List.{List, [], _∷_, map}
+use mathlib.Core.Path.{_≡_, refl, sym, ap, _∙_}
 use Prim.Native.Nat.{ℕ, zero, suc, _≤_, _<_}
 use native.Mathlib.Omega.{arith}
 use lib.ListN.{getD, set, length}
-use Rattle.dsp.specs.Registers.{turns}
+use Rattle.numbers.specs.Listed.{turns, folded}
 
 -- of the first k turns, what each of them keeps
 pub turns-keep : {A : Type 0} (P : A → Type 0) (f : ℕ → A → A) (k : ℕ) → ((n : ℕ) (a : A) → n < k → P a → P (f n a))
@@ -37,3 +37,32 @@ set-there d [] n m w l = refl
 set-there d (x ∷ xs) zero m w l = absurd (omega arith)
 set-there d (x ∷ xs) (suc n) zero w l = refl
 set-there d (x ∷ xs) (suc n) (suc m) w l = set-there d xs n m w (omega arith)
+
+-- ---- folds over a list
+
+-- the first turn apart
+pub turns-front : {A : Type 0} (f : ℕ → A → A) (n : ℕ) (a : A) → turns f (suc n) a ≡ turns (λ k. f (suc k)) n (f 0 a)
+unfolding turns
+turns-front f zero a = refl
+turns-front f (suc n) a = ap (f (suc n)) (turns-front f n a)
+
+-- turns of what is made of a are made of the turns of a
+pub turns-through : {A B : Type 0} (make : A → B) (f : ℕ → A → A) (g : ℕ → B → B) → ((n : ℕ) (a : A) → g n (make a) ≡ make (f n a))
+    → (n : ℕ) (a : A) → turns g n (make a) ≡ make (turns f n a)
+unfolding turns
+turns-through make f g h zero a = refl
+turns-through make f g h (suc n) a = ap (g n) (turns-through make f g h n a) ∙ h n (turns f n a)
+
+pub folded-turns : {A B : Type 0} (d : A) (f : B → A → B) (b : B) (xs : List A) → folded f b xs ≡ turns (λ n s. f s (getD xs n d)) (length xs) b
+unfolding turns folded
+folded-turns d f b [] = refl
+folded-turns d f b (x ∷ xs) = folded-turns d f (f b x) xs ∙ sym (turns-front (λ n s. f s (getD (x ∷ xs) n d)) (length xs) b)
+
+-- each element stored in its turn
+pub mapped-turns : {A : Type 0} (d : A) (f : A → A) (xs : List A) → turns (λ n ys. set ys n (f (getD ys n d))) (length xs) xs ≡ map f xs
+unfolding turns
+mapped-turns d f [] = refl
+mapped-turns {A} d f (x ∷ xs) =
+    let g : ℕ → List A → List A = (λ n ys. set ys n (f (getD ys n d))) in
+    turns-front g (length xs) (x ∷ xs) ∙ turns-through (λ (ys : List A). f x ∷ ys) g (λ n. g (suc n)) (λ n ys. refl) (length xs) xs
+    ∙ ap (λ (ys : List A). f x ∷ ys) (mapped-turns d f xs)
