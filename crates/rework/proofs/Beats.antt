@@ -26,7 +26,7 @@ use Rattle.rework.proofs.Tape.{Beat, put, tick, ask, ticksThen, beats, 
 own-modes : (s r x : ℕ) (m : Fields) → stays s (Write r x) ≡ false → modesAfter r x m ≡ m
 own-modes s r x m e =
     let l = (lt (r % 16) 8 and itself (bit s (r / 16))) .sound (not-false (named s r) e) .0 in
-    rw (ne-eqb r 0x6C (λ z. absurd (omega (arith, l, z))), ne-eqb r 0x2D (λ z. absurd (omega (arith, l, z))))
+    rw (ne-eqb r 0x6C (λ z. absurd (omega arith)), ne-eqb r 0x2D (λ z. absurd (omega arith)))
 
 -- ---- what stays
 

@@ -29,7 +29,7 @@ use Rattle.rework.proofs.Right.{Sized36, rows-36, right}
 use Rattle.rework.proofs.Kept.{Sized, kept}
 use Rattle.rework.proofs.Ends.{end-parts}
 use Rattle.rework.proofs.Taped.{taped}
-use Rattle.rework.proofs.Sheets.{rows-length, over-rows, others, rows-sym, rows-trans, rows-count, puts, measured-sums, same-sym, same-trans}
+use Rattle.rework.proofs.Sheets.{rows-length, over-rows, others, rows-both, rows-count, puts, measured-sums, same-both}
 use Rattle.rework.proofs.Beats.{keep-beats, members-without, quiet-without, joins-beats, quiet-beats, small-beats}
 use Rattle.rework.proofs.Taken.{Fitting, unrefused, run-is}
 use Rattle.rework.proofs.Keeps.{whole-start, whole-tape, whole-fit, whole-sized}
@@ -119,8 +119,8 @@ module _ (s : ℕ) (d₁ d₂ : Dsp) (ram log₁ log₂ : List ℕ) (same : Same
       let g₁ : Kept a ram x z = subst (λ (c : List Beat). Kept a ram x (tape everything c [] (apart d₂) ram)) f₁ (subst (λ (n : ℕ). Kept n ram x (tape everything (keep s (beats rs₁)) [] (apart d₂) ram)) e₁ k₁) in
       let g₂ : Kept a ram y z = subst (λ (c : List Beat). Kept a ram y (tape everything c [] (apart d₂) ram)) f₂ (subst (λ (n : ℕ). Kept n ram y (tape everything (keep s (beats rs₂)) [] (apart d₂) ram)) e₂ k₂) in
       record {
-        parts = same-trans a (x .parts) (z .parts) (y .parts) (g₁ .parts) (same-sym a (y .parts) (z .parts) (g₂ .parts));
-        rows = rows-trans a (g₁ .rows) (rows-sym a (g₂ .rows));
+        parts = same-both a (x .parts) (y .parts) (z .parts) (g₁ .parts) (g₂ .parts);
+        rows = rows-both a (g₁ .rows) (g₂ .rows);
       }
 
 -- ---- the refusals
@@ -184,20 +184,20 @@ demand3 s d₁ d₂ ram log₁ log₂ pcm₁ sheet₁ readings₁ pcm₂ sheet�
     right a (beats rs₂) sheet₂ old (apart d₂) (apart d₂) ram (f₂ .ram-whole) (small-beats log₂ b₂) (sim-self a (apart d₂) (v₂ .voices) (v₂ .delays)) (h₂ .good)
     (quiet-beats rs₂ (modesOf d₂) q₂) (over-rows a s₁ (r .rows)) in
     let en = end-parts a (t₃ .parts) (t₁ .parts) (t₂ .parts) (whole-sized w₁) (whole-sized w₂) (w₁ .endx) (w₂ .endx) (g .parts) (r .parts) in
-    let sheet₁-is : first .sheet ≡ old = ap (λ (o : Outcome). o .sheet) i₁ ∙ p₁ .sheet in
-    let end-is : first .dsp ≡ end = ap (λ (o : Outcome). o .dsp) i₁ ∙ ap together (p₁ .parts) in
-    let sheet₂-is : second .sheet ≡ flatten (t₂ .rows) = ap (λ (o : Outcome). o .sheet) i₂ ∙ p₂ .sheet in
+    let sheet₁-is : first .sheet ≡ old = (λ i. i₁ i .sheet) ∙ p₁ .sheet in
+    let end-is : first .dsp ≡ end = (λ i. i₁ i .dsp) ∙ ap together (p₁ .parts) in
+    let sheet₂-is : second .sheet ≡ flatten (t₂ .rows) = (λ i. i₂ i .sheet) ∙ p₂ .sheet in
     let played : Run = playAll (only a) rs₂ (starting d₂ ram old) in
     let x-is : reworkOf s d₂ (first .dsp) ram log₁ log₂ pcm (first .sheet) readings ≡ reworked a d₂ end (ran m₂ played) =
     (λ i. reworkOf s d₂ (end-is i) ram log₁ log₂ pcm (sheet₁-is i) readings) ∙ rw (eq-eqb (refusalOf s d₂ end ram log₁ log₂) 0 n₀) (ap (reworked a d₂ end) i₃) in
-    let sheet-is = ap (λ (y : Left). y .sheet) x-is ∙ p₃ .sheet ∙ ap flatten (g .rows) in
+    let sheet-is = (λ i. x-is i .sheet) ∙ p₃ .sheet ∙ ap flatten (g .rows) in
     record {
-      refusal = ap (λ (y : Left). y .refusal) x-is;
+      refusal = (λ i. x-is i .refusal);
       sheet = sheet-is ∙ sym sheet₂-is;
-      readings = ap (λ (y : Left). y .readings) x-is ∙ p₃ .readings ∙ g .readings ∙ sym (ap (λ (o : Outcome). o .readings) i₂ ∙ p₂ .readings);
-      samples = ap (λ (y : Left). y .pcm) x-is ∙ p₃ .pcm ∙ ap flatten (g .frames) ∙ sym (ap (λ (o : Outcome). o .pcm) i₂ ∙ p₂ .pcm);
-      end = ap (λ (y : Left). y .dsp) x-is ∙ ap (λ (p : Parts). together (endParts a p (t₁ .parts))) (p₃ .parts) ∙ ap together en ∙ sym (ap (λ (o : Outcome). o .dsp) i₂ ∙ ap together (p₂ .parts));
-      members = ap (λ (y : Left). y .members) x-is;
-      count = ap (λ (y : Left). y .count) x-is;
+      readings = (λ i. x-is i .readings) ∙ p₃ .readings ∙ g .readings ∙ sym ((λ i. i₂ i .readings) ∙ p₂ .readings);
+      samples = (λ i. x-is i .pcm) ∙ p₃ .pcm ∙ ap flatten (g .frames) ∙ sym ((λ i. i₂ i .pcm) ∙ p₂ .pcm);
+      end = (λ i. x-is i .dsp) ∙ ap (λ (p : Parts). together (endParts a p (t₁ .parts))) (p₃ .parts) ∙ ap together en ∙ sym ((λ i. i₂ i .dsp) ∙ ap together (p₂ .parts));
+      members = (λ i. x-is i .members);
+      count = (λ i. x-is i .count);
       others = λ t j l o. ap (λ (b : List ℕ). laneAt j (drop (t * 36) b)) sheet-is ∙ others a s₁ s₂ (r .rows) t j l o ∙ sym (ap (λ (b : List ℕ). laneAt j (drop (t * 36) b)) sheet₁-is);
     }

@@ -38,7 +38,7 @@ sum-without f h s [] = refl
 sum-without f h s (Write r x ∷ rs) =
     let e = sum-without f h s rs in
     let z = h r x in
-    tested (λ (l : List Record). sumIn f l ≡ f (Write r x) + sumIn f rs) (stays s (Write r x)) (λ _. ap (λ (k : ℕ). f (Write r x) + k) e) (λ _. omega (arith, e, z))
+    tested (λ (l : List Record). sumIn f l ≡ f (Write r x) + sumIn f rs) (stays s (Write r x)) (λ _. ap (λ (k : ℕ). f (Write r x) + k) e) (λ _. omega arith)
 sum-without f h s (Ticks n ∷ rs) = ap (λ (k : ℕ). f (Ticks n) + k) (sum-without f h s rs)
 sum-without f h s (Reading r ∷ rs) = ap (λ (k : ℕ). f (Reading r) + k) (sum-without f h s rs)
 
@@ -78,8 +78,8 @@ module _ (s : ℕ) (ram log₁ log₂ pcm sheet readings : List ℕ) (b₁ : Byt
         let p = taped everything (decode log₁ .records) (benchOf newDsp ram sheet) [] in
         let c = puts everything (decode log₁ .records) sheet (apart newDsp) ram in
         let m = measured-sums log₁ (u .first) in (
-          ap (λ (o : Outcome). length (o .pcm)) i ∙ ap length (p .pcm) ∙ c .pcm ∙ ap (λ (k : ℕ). k * 4) (sym (m .0)) ∙ sym (f .sounds),
-          ap (λ (o : Outcome). length (o .readings)) i ∙ ap length (p .readings) ∙ c .readings ∙ sym (m .1) ∙ sym (f .told),
+          (λ j. length (i j .pcm)) ∙ ap length (p .pcm) ∙ c .pcm ∙ ap (λ (k : ℕ). k * 4) (sym (m .0)) ∙ sym (f .sounds),
+          (λ j. length (i j .readings)) ∙ ap length (p .readings) ∙ c .readings ∙ sym (m .1) ∙ sym (f .told),
         )
 
     pub reworks : Reworks s newDsp log₂ first second (reworkOf s newDsp (first .dsp) ram log₁ log₂ (first .pcm) (first .sheet) (first .readings))

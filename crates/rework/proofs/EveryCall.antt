@@ -105,7 +105,7 @@ unfolding picked
 picked-keeps P x a new old z j p q =
     elim (decLt j 8) [
       | yes l ↦ subst P (sym (getD-listed (λ i. if bit a i then getD new i x else getD old i x) 8 j x l)) (chosen P (bit a j) p q)
-      | no l ↦ let f : ℕ → _ = (λ i. if bit a i then getD new i x else getD old i x) in let e = length-listed f 8 in subst P (sym (List·getD-eq-default (listed f 8) x {n = j} (omega (arith, e)))) z
+      | no l ↦ let f : ℕ → _ = (λ i. if bit a i then getD new i x else getD old i x) in let e = length-listed f 8 in subst P (sym (List·getD-eq-default (listed f 8) x {n = j} (omega arith))) z
     ]
 
 end-fit : (a : ℕ) (new old : Dsp) → IsFit new → IsFit old → IsFit (together (endParts a (apart new) (apart old)))

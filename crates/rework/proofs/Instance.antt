@@ -1,7 +1,7 @@
 -- What is computed once: the programs that must not get through, each at an input of its own; and an instance of demand 3, two lessons
 -- that differ in the GAIN of voice 3, in which voice 4 joins late. While voice 3 is in the set and PMON selects voice 5, nothing joins;
 -- once PMON selects voice 4, that does, and voice 5 stays out.
-use mathlib.Core.Bool.{Bool, true, _&&_, true≢false}
+use mathlib.Core.Bool.{Bool, true, false, _&&_, true≢false}
 use mathlib.Core.List.{List, [], _∷_}
 use mathlib.Core.Logic.{_≢_}
 use mathlib.Core.Path.{_≡_, refl, sym, ap, _∙_}
@@ -9,7 +9,8 @@ use Prim.Native.Nat.{ℕ, zero, suc, _*_}
 use native.Mathlib.Omega.{arith}
 use lib.ListN.{getD, drop, replicate}
 use lib.Signed.{mag}
-use Rattle.numbers.specs.Choice.{_<?_}
+use borrow.Author.Tests.{eqb-false}
+use Rattle.numbers.specs.Choice.{_<?_, _=?_}
 use Rattle.numbers.specs.Bits.{withBit}
 use Rattle.numbers.specs.Listed.{listed, turns, folded, all}
 use Rattle.sound.specs.Clock.{periods, periodOf}
@@ -100,8 +101,11 @@ pub record Seen : Type 0 where
   pub second-runs : run 0x40 .refusal ≡ 0
 
 -- two things that have different numbers
-differ-by : {A : Type 0} (f : A → ℕ) {x y : A} (m n : ℕ) → f x ≡ m → f y ≡ n → m ≢ n → x ≢ y
-differ-by f m n p q d = λ e. d (sym p ∙ ap f e ∙ q)
+differ-by : {A : Type 0} (f : A → ℕ) {x y : A} (m n : ℕ) → f x ≡ m → f y ≡ n → (m =? n) ≡ false → x ≢ y
+differ-by f m n p q d = λ e. eqb-false m n d (sym p ∙ ap f e ∙ q)
+
+abbrev byte : ℕ → List ℕ → ℕ
+byte n xs = getD xs n 0
 
 computed : Seen × NotThrough
 unfolding firstOf firSum firOf echoRead historyNow echoNow withVoice folded dryOf masterOf renderOf stepOf unclamped periods periodOf shifted byteAt wordAt decodeBlock fires countedOn storedFrom echoWritten lengthNow pointerNext echoMoved echoTick echoFrom echoLane attackTick gainTick phaseTick envelopeTick all fit keyedOff keyedOn waited noised sourceOf polledOf waitedOf cellAfter cellOf shownCell withBit putBytes added ownCell turned scaledOutput noiseTick turns writeParts writeAt writeOf pairBytes laneBytes turn voicesTick globalsTick tickOf benchTick ticksOf pitchOf positionOf samplesTaken placed decodedAt nextAddress nextBlock resolved pushed takeOne consume advanced interpolated sounded voiceStep writeRecord ticksRecord readingRecord byMark readAt decodeFrom decode measureOf play playAll runMeasured runWith without sameRecord sameRecords alike quiet joinedBy joinedOver members voicesIn listed picked refusalOf reworkOf
@@ -124,18 +128,18 @@ computed = (
     second-runs = refl;
   },
   record {
-    refusesAll = λ h. let e : _≡_ {A = ℕ} 2 0 = h .render newDsp .0 in absurd (omega (arith, e));
+    refusesAll = λ h. let e : _≡_ {A = ℕ} 2 0 = h .render newDsp .0 in absurd (omega arith);
     taken = (refl, refl, refl, refl);
-    sounds = differ-by (λ (xs : List ℕ). getD xs 0 0) 0xF4 0 refl refl (λ e. absurd (omega (arith, e)));
-    moves = differ-by (λ (xs : List ℕ). getD xs 0 0) 0xF4 0xFA refl refl (λ e. absurd (omega (arith, e)));
+    sounds = differ-by (byte 0) 0xF4 0 refl refl refl;
+    moves = differ-by (byte 0) 0xF4 0xFA refl refl refl;
     steps = λ e. true≢false (ap (λ (d : Dsp). d .«every_other_sample») e);
-    goesOn = differ-by (λ (xs : List ℕ). getD xs 0 0) 0xFC 0 refl refl (λ e. absurd (omega (arith, e)));
-    rewrites = differ-by (λ (xs : List ℕ). getD xs 182 0) 0x40 0x7F refl refl (λ e. absurd (omega (arith, e)));
+    goesOn = differ-by (byte 0) 0xFC 0 refl refl refl;
+    rewrites = differ-by (byte 182) 0x40 0x7F refl refl refl;
     counts = (refl, refl);
-    onlyNamed = differ-by (λ (xs : List ℕ). getD xs 4 0) 0x55 0 refl refl (λ e. absurd (omega (arith, e)));
-    clampsEach = differ-by (mag) 253 31753 refl refl (λ e. absurd (omega (arith, e)));
-    keepsOn = differ-by (λ (v : Voice). v .«pitch_counter») 0x1000 0 refl refl (λ e. absurd (omega (arith, e)));
-    untouched = differ-by (λ (xs : List ℕ). getD xs 0 0) 0x7F 0 refl refl (λ e. absurd (omega (arith, e)));
+    onlyNamed = differ-by (byte 4) 0x55 0 refl refl refl;
+    clampsEach = differ-by mag 253 31753 refl refl refl;
+    keepsOn = differ-by (λ (v : Voice). v .«pitch_counter») 0x1000 0 refl refl refl;
+    untouched = differ-by (byte 0) 0x7F 0 refl refl refl;
   },
 )
 

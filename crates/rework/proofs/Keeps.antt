@@ -52,8 +52,8 @@ endx-turn : (mask : ℕ) (old : List ℕ) (c : Shared) (ram : List ℕ) (j : ℕ
 unfolding turn turned putBytes
 endx-turn mask old c ram j r l h =
     let b = r .bytes in
-    let n : 0x7C ≢ j * 16 + 8 = (λ e. absurd (omega (arith, l, e))) in
-    let m : 0x7C ≢ j * 16 + 9 = (λ e. absurd (omega (arith, l, e))) in
+    let n : 0x7C ≢ j * 16 + 8 = (λ e. absurd (omega arith)) in
+    let m : 0x7C ≢ j * 16 + 9 = (λ e. absurd (omega arith)) in
     let x : Cell = if bit mask j then ownCell c ram j (r .sums .prev) (getD (r .voices) j noVoice) (getD (r .delays) j 0) b else shownCell (laneAt j old) (getD (r .voices) j noVoice) (getD (r .delays) j 0) in
     let y = set b (j * 16 + 8) (x .envx) in
     let z = set y (j * 16 + 9) (highZ (x .out)) in

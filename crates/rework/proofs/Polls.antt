@@ -10,7 +10,7 @@ use native.Mathlib.Omega.{arith}
 use native.Mathlib.Decide.{ℕ-discrete}
 use lib.IntN.{ℤ}
 use lib.ListN.{getD, set, length, length-set}
-use lib.Seq.{getD-set-same, getD-set-other}
+use lib.Seq.{getD-set-same, getD-set-other, set-set, set-comm}
 use Rattle.numbers.specs.Choice.{if_then_else_}
 use Rattle.numbers.specs.Signed.{highZ}
 use Rattle.numbers.proofs.Choice.{chosen}
@@ -28,20 +28,6 @@ use Rattle.numbers.proofs.Turns.{turns-keep, turns-same}
 use Rattle.dsp.proofs.Whole.{full, tick-whole}
 use Rattle.rework.specs.Order.{Polled, pollOne, polledParts, echoBehind, PollFirst}
 use Rattle.rework.proofs.Shows.{put-sized, put-endx}
-
--- ---- stores
-
-set-set : {A : Type 0} (xs : List A) (n : ℕ) (x y : A) → set (set xs n x) n y ≡ set xs n y
-set-set [] n x y = refl
-set-set (z ∷ xs) zero x y = refl
-set-set (z ∷ xs) (suc n) x y = ap (λ (l : List _). z ∷ l) (set-set xs n x y)
-
-set-swap : {A : Type 0} (xs : List A) (n m : ℕ) (x y : A) → n ≢ m → set (set xs n x) m y ≡ set (set xs m y) n x
-set-swap [] n m x y h = refl
-set-swap (z ∷ xs) zero zero x y h = absurd (h refl)
-set-swap (z ∷ xs) zero (suc m) x y h = refl
-set-swap (z ∷ xs) (suc n) zero x y h = refl
-set-swap (z ∷ xs) (suc n) (suc m) x y h = ap (λ (l : List _). z ∷ l) (set-swap xs n m x y (λ e. h (ap suc e)))
 
 -- ---- bits of a byte
 
@@ -150,19 +136,19 @@ module _ (c : Shared) (ram : List ℕ) where
   put-over n envx out endx bytes w l z =
       let o = outs n envx out bytes in
       let e : outs n envx out (set bytes 0x7C w) ≡ set o 0x7C w =
-      ap (λ (xs : List ℕ). set xs (n * 16 + 9) (highZ out)) (set-swap bytes 0x7C (n * 16 + 8) w envx (λ q. absurd (omega (arith, l, q))))
-      ∙ set-swap (set bytes (n * 16 + 8) envx) 0x7C (n * 16 + 9) w (highZ out) (λ q. absurd (omega (arith, l, q))) in
+      ap (λ (xs : List ℕ). set xs (n * 16 + 9) (highZ out)) (set-comm bytes 0x7C (n * 16 + 8) w envx (λ q. absurd (omega arith)))
+      ∙ set-comm (set bytes (n * 16 + 8) envx) 0x7C (n * 16 + 9) w (highZ out) (λ q. absurd (omega arith)) in
       let s : length o ≡ 128 = length-set (set bytes (n * 16 + 8) envx) (n * 16 + 9) (highZ out) ∙ length-set bytes (n * 16 + 8) envx ∙ z in
       ap (λ (xs : List ℕ). set xs 0x7C (withBit (getD xs 0x7C 0) n endx)) e
       ∙ set-set o 0x7C w (withBit (getD (set o 0x7C w) 0x7C 0) n endx)
-      ∙ ap (λ (x : ℕ). set o 0x7C (withBit x n endx)) (getD-set-same o 0x7C w 0 (omega (arith, s)))
+      ∙ ap (λ (x : ℕ). set o 0x7C (withBit x n endx)) (getD-set-same o 0x7C w 0 (omega arith))
 
   put-is : (n envx : ℕ) (out : ℤ) (endx : Bool) (bytes : List ℕ) → n < 8 → putBytes n envx out endx bytes ≡ set (outs n envx out bytes) 0x7C (withBit (getD bytes 0x7C 0) n endx)
   unfolding putBytes
   put-is n envx out endx bytes l =
       ap (λ (x : ℕ). set (outs n envx out bytes) 0x7C (withBit x n endx))
-      (getD-set-other (set bytes (n * 16 + 8) envx) (n * 16 + 9) 0x7C (highZ out) 0 (λ q. absurd (omega (arith, l, q)))
-      ∙ getD-set-other bytes (n * 16 + 8) 0x7C envx 0 (λ q. absurd (omega (arith, l, q))))
+      (getD-set-other (set bytes (n * 16 + 8) envx) (n * 16 + 9) 0x7C (highZ out) 0 (λ q. absurd (omega arith))
+      ∙ getD-set-other bytes (n * 16 + 8) 0x7C envx 0 (λ q. absurd (omega arith)))
 
   -- the poll of the voice itself, under its step
   put-own : (b : Bool) (n envx : ℕ) (out : ℤ) (endx : Bool) (bytes : List ℕ) → n < 8 → length bytes ≡ 128 → getD bytes 0x7C 0 < 256
@@ -184,7 +170,7 @@ module _ (c : Shared) (ram : List ℕ) where
       ∙ sym
       (ap (putEndx j false) (put-is n envx out endx bytes l)
       ∙ set-set o 0x7C (withBit x n endx) (withBit (getD (set o 0x7C (withBit x n endx)) 0x7C 0) j false)
-      ∙ ap (λ (y : ℕ). set o 0x7C (withBit y j false)) (getD-set-same o 0x7C (withBit x n endx) 0 (omega (arith, s))))
+      ∙ ap (λ (y : ℕ). set o 0x7C (withBit y j false)) (getD-set-same o 0x7C (withBit x n endx) 0 (omega arith)))
   put-past false n j envx out endx bytes l m d z h = refl
 
   -- ---- what a poll leaves of the registers
@@ -197,13 +183,13 @@ module _ (c : Shared) (ram : List ℕ) where
   poll-own : (b : Bool) (n : ℕ) (bytes : List ℕ) → n < 8 → length bytes ≡ 128
       → bit (getD (if b then putEndx n false bytes else bytes) 0x7C 0) n ≡ (if b then false else bit (getD bytes 0x7C 0) n)
   poll-own true n bytes l z =
-      ap (λ (x : ℕ). bit x n) (getD-set-same bytes 0x7C (withBit (getD bytes 0x7C 0) n false) 0 (omega (arith, z))) ∙ bit-here (getD bytes 0x7C 0) n false
+      ap (λ (x : ℕ). bit x n) (getD-set-same bytes 0x7C (withBit (getD bytes 0x7C 0) n false) 0 (omega arith)) ∙ bit-here (getD bytes 0x7C 0) n false
   poll-own false n bytes l z = refl
 
   poll-past : (b : Bool) (n j : ℕ) (bytes : List ℕ) → n < 8 → j < 8 → n ≢ j → length bytes ≡ 128
       → bit (getD (if b then putEndx j false bytes else bytes) 0x7C 0) n ≡ bit (getD bytes 0x7C 0) n
   poll-past true n j bytes l m d z =
-      ap (λ (x : ℕ). bit x n) (getD-set-same bytes 0x7C (withBit (getD bytes 0x7C 0) j false) 0 (omega (arith, z))) ∙ bit-there (getD bytes 0x7C 0) j n false d
+      ap (λ (x : ℕ). bit x n) (getD-set-same bytes 0x7C (withBit (getD bytes 0x7C 0) j false) 0 (omega arith)) ∙ bit-there (getD bytes 0x7C 0) j n false d
   poll-past false n j bytes l m d z = refl
 
   -- ---- lengths
@@ -241,8 +227,8 @@ module _ (c : Shared) (ram : List ℕ) where
       let d = polledDelay (on n) (getD (r .delays) n 0) in
       let ev = getD-set-same (r .voices) n w noVoice (omega (arith, h .voices)) in
       let ed = getD-set-same (r .delays) n d 0 (omega (arith, h .delays)) in
-      let es = poll-byte (on n) n (n * 16 + 4) b (λ q. absurd (omega (arith, l, q))) in
-      let ex = poll-byte (on n) n (n * 16 + 8) b (λ q. absurd (omega (arith, l, q))) in
+      let es = poll-byte (on n) n (n * 16 + 4) b (λ q. absurd (omega arith)) in
+      let ex = poll-byte (on n) n (n * 16 + 8) b (λ q. absurd (omega arith)) in
       let ee = poll-own (on n) n b l (h .bytes) in
       let x = ownCell c ram n (r .sums .prev) v (getD (r .delays) n 0) b in
       ap (put n (poll n r))
@@ -262,22 +248,22 @@ module _ (c : Shared) (ram : List ℕ) where
   passed n j r q m h =
       let b = r .bytes in
       let l : n < 8 = omega arith in
-      let far : n ≢ j = (λ e. absurd (omega (arith, q, e))) in
+      let far : n ≢ j = (λ e. absurd (omega arith)) in
       let w : Voice → Voice = polledVoice (off j) (on j) (c .«dir_base») in
       let ev = getD-set-other (r .voices) j n (w (getD (r .voices) j noVoice)) noVoice far in
       let ed = getD-set-other (r .delays) j n (polledDelay (on j) (getD (r .delays) j 0)) 0 far in
-      let es = poll-byte (on j) j (n * 16 + 4) b (λ e. absurd (omega (arith, l, e))) in
-      let ex = poll-byte (on j) j (n * 16 + 8) b (λ e. absurd (omega (arith, l, e))) in
+      let es = poll-byte (on j) j (n * 16 + 4) b (λ e. absurd (omega arith)) in
+      let ex = poll-byte (on j) j (n * 16 + 8) b (λ e. absurd (omega arith)) in
       let ee = poll-past (on j) n j b l m far (h .bytes) in
       let x = ownCell (behind c) ram n (r .sums .prev) (getD (r .voices) n noVoice) (getD (r .delays) n 0) b in
       let back : j ≢ n = (λ e. far (sym e)) in
       ap (put n (poll j r)) (λ i. cellOf (behind c) ram n (r .sums .prev) (ev i) (ed i) (es i) (ex i) (ee i))
       ∙ (λ i. record {
         voices =
-            (set-swap (r .voices) j n (w (getD (r .voices) j noVoice)) (x .voice) back
+            (set-comm (r .voices) j n (w (getD (r .voices) j noVoice)) (x .voice) back
             ∙ ap (λ (v : Voice). set (set (r .voices) n (x .voice)) j (w v)) (sym (getD-set-other (r .voices) n j (x .voice) noVoice back))) i;
         delays =
-            (set-swap (r .delays) j n (polledDelay (on j) (getD (r .delays) j 0)) (x .delay) back
+            (set-comm (r .delays) j n (polledDelay (on j) (getD (r .delays) j 0)) (x .delay) back
             ∙ ap (λ (v : ℕ). set (set (r .delays) n (x .delay)) j (polledDelay (on j) v)) (sym (getD-set-other (r .delays) n j (x .delay) 0 back))) i;
         bytes = put-past (on j) n j (x .envx) (x .out) (x .endx) b l m far (h .bytes) (h .endx) i;
         sums = step n r .sums;
@@ -299,13 +285,13 @@ module _ (c : Shared) (ram : List ℕ) where
   -- n steps behind all polls are n turns that poll themselves, and the polls of the others
   steps-turns : (n k : ℕ) (r : Round) → k + n ≡ 8 → Sized r → turns step n (rest 8 0 r) ≡ rest k n (turns whole n r)
   unfolding turns
-  steps-turns zero k r e h = let f : 8 ≡ k = omega (arith, e) in ap (λ (i : ℕ). rest i 0 r) f
+  steps-turns zero k r e h = let f : 8 ≡ k = omega arith in ap (λ (i : ℕ). rest i 0 r) f
   steps-turns (suc n) k r e h =
       let a = turns whole n r in
-      let s = turns-keep Sized whole 8 (λ j t l i. sized-put j t _ l i) n r (omega (arith, e)) h in
-      ap (step n) (steps-turns n (suc k) r (omega (arith, e)) h)
-      ∙ rest-passed k (suc n) n (poll n a) (omega arith) (omega (arith, e)) (sized-poll n a (omega (arith, e)) s)
-      ∙ ap (rest k (suc n)) (fused n a (omega (arith, e)) s)
+      let s = turns-keep Sized whole 8 (λ j t l i. sized-put j t _ l i) n r (omega arith) h in
+      ap (step n) (steps-turns n (suc k) r (omega arith) h)
+      ∙ rest-passed k (suc n) n (poll n a) (omega arith) (omega arith) (sized-poll n a (omega arith) s)
+      ∙ ap (rest k (suc n)) (fused n a (omega arith) s)
 
   polls-first : (r : Round) → Sized r → turns (turn 0xFF [] (behind c) ram) 8 (rest 8 0 r) ≡ turns (turn 0xFF [] c ram) 8 r
   polls-first r h =
@@ -319,7 +305,7 @@ module _ (c : Shared) (ram : List ℕ) where
 dir-kept : (koff kon dir : ℕ) (p : Polled) → getD (turns (pollOne koff kon dir) 8 p .registers) 0x5D 0 ≡ getD (p .registers) 0x5D 0
 dir-kept koff kon dir p =
     turns-keep (λ (q : Polled). getD (q .registers) 0x5D 0 ≡ getD (p .registers) 0x5D 0) (pollOne koff kon dir) 8
-    (λ j q l h. chosen (λ (xs : List ℕ). getD xs 0x5D 0 ≡ getD (p .registers) 0x5D 0) (bit kon j) (getD-set-other (q .registers) 0x7C 0x5D _ 0 (λ e. absurd (omega (arith, e))) ∙ h) h)
+    (λ j q l h. chosen (λ (xs : List ℕ). getD xs 0x5D 0 ≡ getD (p .registers) 0x5D 0) (bit kon j) (getD-set-other (q .registers) 0x7C 0x5D _ 0 (λ e. absurd (omega arith)) ∙ h) h)
     8 p (omega arith) refl
 
 pub poll-first : PollFirst

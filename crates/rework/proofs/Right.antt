@@ -212,7 +212,7 @@ row-wide o c ram zero s l = omega arith
 row-wide o c ram (suc n) s l =
     let t = turns (turn 0xFF o c ram) n s in
     let e = row-wide o c ram n s (omega arith) in
-    ap length (row-more o c ram n t (omega arith)) ∙ length-append (t .row) (slotOf (cellIn c ram n t)) ∙ omega (arith, e)
+    ap length (row-more o c ram n t (omega arith)) ∙ length-append (t .row) (slotOf (cellIn c ram n t)) ∙ omega arith
 
 -- ---- the voices of a tick
 
@@ -233,7 +233,7 @@ turns-abreast a old o c ram r s m g h z (suc n) l f =
     let e = row-more o c ram n t (omega arith) in
     let k : length (t .row) ≡ n * 4 = row-wide o c ram n s (omega arith) ∙ omega (arith, ap length z) in
     turn-both a old o c ram n (turns (turn a old c ram) n r) t m (omega arith) (sound-turns 0xFF o c ram m n s (omega arith) g)
-    (turns-abreast a old o c ram r s m g h z n (omega arith) (λ j i b. f j (omega arith) b ∙ ap (laneAt j) e ∙ lane-part j (t .row) y (omega (arith, k))))
+    (turns-abreast a old o c ram r s m g h z n (omega arith) (λ j i b. f j (omega arith) b ∙ ap (laneAt j) e ∙ lane-part j (t .row) y (omega arith)))
     (λ b. f n (omega arith) b ∙ ap (laneAt n) e ∙ lane-last n (t .row) y k refl)
 
 -- ---- what is needed of the run's parts
@@ -376,7 +376,7 @@ tick-both a old o p q ram h g b f =
     let k : length (s .row) ≡ 32 = row-wide o c ram 8 (startOf q) (omega arith) in
     let y : Abreast a (startOf p) (startOf q) =
     record { beside = sim-beside a p q h g; waits = h .waits ∙ sym (g .round .fit .waits); delays = h .delays; bytes = h .bytes; sums = refl; row = refl } in
-    let u = turns-abreast a old o c ram (startOf p) (startOf q) n (g .round) y refl 8 (omega arith) (λ j l x. f j (omega arith) (λ _. x) ∙ lane-part j (s .row) slot (omega (arith, k))) in
+    let u = turns-abreast a old o c ram (startOf p) (startOf q) n (g .round) y refl 8 (omega arith) (λ j l x. f j (omega arith) (λ _. x) ∙ lane-part j (s .row) slot (omega arith)) in
     let t = subst (λ (x : Shared). Abreast a (turns (turn a old x ram) 8 (startOf p)) s) (sym (shared-both (p .globals) (q .globals) (p .registers) (q .registers) (h .globals) (h .bytes))) u in
     mixed-both a (laneAt 8 old) (laneAt 8 o) p q ram (turns (turn a old d ram) 8 (startOf p)) s (h .globals) b (sound-turns 0xFF o c ram n 8 (startOf q) (omega arith) (g .round) .fit) t
     (f 8 (omega arith) (λ l. absurd (omega arith)) ∙ lane-last 8 (s .row) slot k refl)
@@ -422,7 +422,7 @@ unfolding tickOf voicesTick echoLane pairBytes
 row-36 o q ram =
     let c = sharedOf (q .globals) (q .registers) in
     let e = row-wide o c ram 8 (startOf q) (omega arith) in
-    length-append (turns (turn 0xFF o c ram) 8 (startOf q) .row) _ ∙ omega (arith, e)
+    length-append (turns (turn 0xFF o c ram) 8 (startOf q) .row) _ ∙ omega arith
 
 unfoldable pub Sized36 : List (List ℕ) → Type 0
 Sized36 [] = Unit {0}

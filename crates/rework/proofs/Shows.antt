@@ -35,9 +35,9 @@ module _ (n envx : ℕ) (out : ℤ) (endx : Bool) (bytes : List ℕ) (l : n < 8)
   pub put-envx : getD (putBytes n envx out endx bytes) (n * 16 + 8) 0 ≡ envx
   unfolding putBytes
   put-envx =
-      getD-set-other shown 0x7C (n * 16 + 8) _ 0 (λ e. absurd (omega (arith, l, e)))
-      ∙ getD-set-other (set bytes (n * 16 + 8) envx) (n * 16 + 9) (n * 16 + 8) (highZ out) 0 (λ e. absurd (omega (arith, e)))
-      ∙ getD-set-same bytes (n * 16 + 8) envx 0 (omega (arith, sized))
+      getD-set-other shown 0x7C (n * 16 + 8) _ 0 (λ e. absurd (omega arith))
+      ∙ getD-set-other (set bytes (n * 16 + 8) envx) (n * 16 + 9) (n * 16 + 8) (highZ out) 0 (λ e. absurd (omega arith))
+      ∙ getD-set-same bytes (n * 16 + 8) envx 0 (omega arith)
 
   pub put-there : (i : ℕ) → i ≢ n * 16 + 8 → i ≢ n * 16 + 9 → i ≢ 0x7C → getD (putBytes n envx out endx bytes) i 0 ≡ getD bytes i 0
   unfolding putBytes
@@ -54,7 +54,7 @@ module _ (n envx : ℕ) (out : ℤ) (endx : Bool) (bytes : List ℕ) (l : n < 8)
   unfolding putBytes
   put-endx =
       getD-set-same shown 0x7C (withBit (getD shown 0x7C 0) n endx) 0 (omega (arith, shown-sized))
-      ∙ ap (λ (x : ℕ). withBit x n endx) (put-other 0x7C (λ e. absurd (omega (arith, l, e))) (λ e. absurd (omega (arith, l, e))))
+      ∙ ap (λ (x : ℕ). withBit x n endx) (put-other 0x7C (λ e. absurd (omega arith)) (λ e. absurd (omega arith)))
 
 -- ---- the lanes
 
@@ -64,10 +64,10 @@ lanes-stay : (n envx : ℕ) (out : ℤ) (endx : Bool) (bytes : List ℕ) (vs : L
 unfolding lanesOf
 lanes-stay n envx out endx bytes vs y l z zero m = refl
 lanes-stay n envx out endx bytes vs y l z (suc k) m =
-    let v = getD-set-other vs n k y noVoice (λ e. absurd (omega (arith, m, e))) in
-    let b = put-there n envx out endx bytes l z (k * 16 + 8) (λ e. absurd (omega (arith, m, e))) (λ e. absurd (omega (arith, m, e))) (λ e. absurd (omega (arith, l, m, e))) in
-    let x = ap (λ (w : ℕ). bit w k) (put-endx n envx out endx bytes l z) ∙ bit-there (getD bytes 0x7C 0) n k endx (λ e. absurd (omega (arith, m, e))) in
-    λ i. lanes-stay n envx out endx bytes vs y l z k (omega (arith, m)) i ++ laneBytes (outputOf (v i)) (b i) (x i)
+    let v = getD-set-other vs n k y noVoice (λ e. absurd (omega arith)) in
+    let b = put-there n envx out endx bytes l z (k * 16 + 8) (λ e. absurd (omega arith)) (λ e. absurd (omega arith)) (λ e. absurd (omega arith)) in
+    let x = ap (λ (w : ℕ). bit w k) (put-endx n envx out endx bytes l z) ∙ bit-there (getD bytes 0x7C 0) n k endx (λ e. absurd (omega arith)) in
+    λ i. lanes-stay n envx out endx bytes vs y l z k (omega arith) i ++ laneBytes (outputOf (v i)) (b i) (x i)
 
 record Lanes (n : ℕ) (r : Round) : Type 0 where
   registers : length (r .bytes) ≡ 128

@@ -1,9 +1,8 @@
 -- By the kind of the record.
 use borrow.Author.Needs.{needs}
-use mathlib.Core.Bool.{Bool, _&&_, _||_}
+use mathlib.Core.Bool.{Bool, _&&_, _||_, and-true}
 use mathlib.Core.Path.{refl, sym, ap}
 use Rattle.numbers.specs.Choice.{_=?_}
-use Rattle.rework.proofs.Walks.{and-true}
 use Rattle.rework.proofs.joining.Walked.past.Statement.{statement}
 use Rattle.rework.proofs.joining.Walked.past.Tie as tie
 
