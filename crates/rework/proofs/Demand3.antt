@@ -18,21 +18,21 @@ use Rattle.log.specs.declared.Record.{Record}
 use Rattle.log.specs.declared.Record.the-variants.{Write, Ticks, Reading}
 use Rattle.log.proofs.Turn.{taken}
 use Rattle.sitting.specs.Play.{Run, playAll, starting}
-use Rattle.sitting.specs.Run.{Outcome, ran, runOf}
+use Rattle.sitting.specs.Run.{ran, runOf}
 use Rattle.rework.specs.Alike.{without, sameRecord, sameRecords, alike}
 use Rattle.rework.specs.Members.{modesOf, quiet, members}
-use Rattle.rework.specs.Differ.{SameBut, Value}
-use Rattle.rework.specs.Rework.{Left, endParts, refusalOf, setOf, only, reworked, reworkOf}
+use Rattle.rework.specs.Differ.{SameBut}
+use Rattle.rework.specs.Rework.{endParts, refusalOf, setOf, only, reworked, reworkOf}
 use Rattle.rework.specs.Demands.{Bytes, Demand3}
 use Rattle.rework.proofs.Tape.{Beat, beats, keep, modesIn, joins, Tape, tape, Rows, Kept, Sim, Right}
 use Rattle.rework.proofs.Right.{Sized36, rows-36, right}
-use Rattle.rework.proofs.Kept.{Sized, kept}
+use Rattle.rework.proofs.Kept.{kept}
 use Rattle.rework.proofs.Ends.{end-parts}
 use Rattle.rework.proofs.Taped.{taped}
 use Rattle.rework.proofs.Sheets.{rows-length, over-rows, others, rows-both, rows-count, puts, measured-sums, same-both}
 use Rattle.rework.proofs.Beats.{keep-beats, members-without, quiet-without, joins-beats, quiet-beats, small-beats}
 use Rattle.rework.proofs.Taken.{Fitting, unrefused, run-is}
-use Rattle.rework.proofs.Keeps.{whole-start, whole-tape, whole-fit, whole-sized}
+use Rattle.rework.proofs.Keeps.{Whole, whole-start, whole-tape, whole-fit, whole-sized}
 
 -- ---- logs that are alike
 
@@ -74,9 +74,6 @@ sim-self a p lv ld =
       globals = refl;
     }
 
-sized : {p : Parts} → Value p → Sized p
-sized v = record { registers = v .registers; voices = v .voices; delays = v .delays }
-
 -- ---- the two runs, as tapes
 
 pub record Runs (a : ℕ) (x y : Tape) : Type 0 where
@@ -103,15 +100,15 @@ module _ (s : ℕ) (d₁ d₂ : Dsp) (ram log₁ log₂ : List ℕ) (same : Same
   quiet-same q = sym (quiet-without s rs₂ (modesOf d₂)) ∙ (λ i. quiet (sym logs i) (sym modes-same i)) ∙ quiet-without s rs₁ (modesOf d₁) ∙ q
 
   -- outside the set both runs agree with the run of what their logs have in common, and so with one another
-  pub runs : (o₁ o₂ : List ℕ) → Bytes log₁ → Bytes log₂ → Value (apart d₁) → Value (apart d₂) → quiet rs₁ (modesOf d₁) ≡ true
+  pub runs : (o₁ o₂ : List ℕ) → Bytes log₁ → Bytes log₂ → Whole (apart d₁) ram → Whole (apart d₂) ram → quiet rs₁ (modesOf d₁) ≡ true
       → Runs (setOf s d₂ log₂) (tape everything (beats rs₁) o₁ (apart d₁) ram) (tape everything (beats rs₂) o₂ (apart d₂) ram)
-  runs o₁ o₂ b₁ b₂ v₁ v₂ q =
+  runs o₁ o₂ b₁ b₂ h₁ h₂ q =
       let a = setOf s d₂ log₂ in
       let x = tape everything (beats rs₁) o₁ (apart d₁) ram in
       let y = tape everything (beats rs₂) o₂ (apart d₂) ram in
       let z = tape everything (beats (without s rs₂)) [] (apart d₂) ram in
-      let k₁ = kept s (beats rs₁) s o₁ [] (apart d₁) (apart d₂) ram (small-beats log₁ b₁) (sized v₁) (sized v₂) (λ j l e. e) same (quiet-beats rs₁ (modesOf d₁) q) in
-      let k₂ = kept s (beats rs₂) s o₂ [] (apart d₂) (apart d₂) ram (small-beats log₂ b₂) (sized v₂) (sized v₂) (λ j l e. e) (same-self s (apart d₂)) (quiet-beats rs₂ (modesOf d₂) (quiet-same q)) in
+      let k₁ = kept s (beats rs₁) s o₁ [] (apart d₁) (apart d₂) ram (h₁ .room) (small-beats log₁ b₁) (h₁ .good) (h₂ .good) (λ j l e. e) same (quiet-beats rs₁ (modesOf d₁) q) in
+      let k₂ = kept s (beats rs₂) s o₂ [] (apart d₂) (apart d₂) ram (h₂ .room) (small-beats log₂ b₂) (h₂ .good) (h₂ .good) (λ j l e. e) (same-self s (apart d₂)) (quiet-beats rs₂ (modesOf d₂) (quiet-same q)) in
       let e₁ : joins (beats rs₁) (modesOf d₁) s ≡ a = joins-beats rs₁ (modesOf d₁) s ∙ set-same in
       let e₂ : joins (beats rs₂) (modesOf d₂) s ≡ a = joins-beats rs₂ (modesOf d₂) s in
       let f₁ : keep s (beats rs₁) ≡ beats (without s rs₂) = keep-beats s rs₁ ∙ ap beats logs in
@@ -158,11 +155,12 @@ demand3 s d₁ d₂ ram log₁ log₂ pcm₁ sheet₁ readings₁ pcm₂ sheet�
     let t₂ = tape everything (beats rs₂) sheet₂ (apart d₂) ram in
     let p₁ = taped everything rs₁ (benchOf d₁ ram sheet₁) [] in
     let p₂ = taped everything rs₂ (benchOf d₂ ram sheet₂) [] in
-    let w₁ = whole-tape everything (beats rs₁) sheet₁ (apart d₁) ram (small-beats log₁ b₁) (whole-start d₁ ram v₁ (f₁ .fits) (f₁ .ram-whole)) in
+    let h₁ = whole-start d₁ ram v₁ (f₁ .fits) (f₁ .ram-whole) in
+    let w₁ = whole-tape everything (beats rs₁) sheet₁ (apart d₁) ram (small-beats log₁ b₁) h₁ in
     let h₂ = whole-start d₂ ram v₂ (f₂ .fits) (f₂ .ram-whole) in
     let w₂ = whole-tape everything (beats rs₂) sheet₂ (apart d₂) ram (small-beats log₂ b₂) h₂ in
     let q₂ = quiet-same s d₁ d₂ ram log₁ log₂ same logs q in
-    let r = runs s d₁ d₂ ram log₁ log₂ same logs sheet₁ sheet₂ b₁ b₂ v₁ v₂ q in
+    let r = runs s d₁ d₂ ram log₁ log₂ same logs sheet₁ sheet₂ b₁ b₂ h₁ h₂ q in
     let end = together (t₁ .parts) in
     let old = flatten (t₁ .rows) in
     let s₁ = rows-36 (beats rs₁) sheet₁ (apart d₁) ram in

@@ -43,7 +43,7 @@ use Rattle.rework.proofs.Tape.{Beat, put, tick, ask, Small, Quiet, mode
 -- ---- two lists side by side
 
 -- after a store into both at n
-set-both : {A : Type 0} (R : A → A → Type 0) (d : A) (xs ys : List A) (n : ℕ) (x y : A) → length xs ≡ length ys
+pub set-both : {A : Type 0} (R : A → A → Type 0) (d : A) (xs ys : List A) (n : ℕ) (x y : A) → length xs ≡ length ys
     → (m : ℕ) → (m ≡ n → R x y) → R (getD xs m d) (getD ys m d) → R (getD (set xs n x) m d) (getD (set ys n y) m d)
 set-both R d [] [] n x y e m p h = h
 set-both R d [] (w ∷ ys) n x y e m p h = absurd (omega arith)
