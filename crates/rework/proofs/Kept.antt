@@ -3,7 +3,7 @@ use mathlib.Core.Bool.{true, false, true≢false}
 use mathlib.Core.List.{List, [], _∷_, _++_}
 use mathlib.Core.Logic.{_≢_}
 use mathlib.Core.Path.{_≡_, refl, sym, ap, subst, _∙_}
-use Prim.Native.Nat.{ℕ, zero, suc, _+_, _*_, _/_, _%_, _≤_, _<_}
+use Prim.Native.Nat.{ℕ, suc, _+_, _*_, _/_, _%_, _≤_, _<_}
 use native.Mathlib.Omega.{arith}
 use native.Mathlib.Decide.{ℕ-discrete}
 use native.Mathlib.Numerals.{add-one}
@@ -40,7 +40,7 @@ use Rattle.rework.specs.Members.{Fields, modesAfter, joinedBy}
 use Rattle.rework.specs.Differ.{Outside, SameBytes, SameBut}
 use Rattle.rework.proofs.Bits.{itself, unless, joined-more, joined-closed}
 use Rattle.rework.proofs.Lanes.{lane-last}
-use Rattle.rework.proofs.Right.{set-both, Good, good-write, good-tick}
+use Rattle.rework.proofs.Right.{set-both, turns-both, Good, good-write, good-tick}
 use Rattle.rework.proofs.Tape.{Beat, put, tick, ask, Small, keep, modesIn, Quiet, joins, tape, modes-tick, SameLanes, none, more, Kept}
 
 -- ---- lengths
@@ -51,13 +51,6 @@ pub record Sized (p : Parts) : Type 0 where
   pub delays : length (p .delays) ≡ 8
 
 -- ---- two runs side by side
-
--- what each turn keeps between them
-turns-both : {A B : Type 0} (R : ℕ → A → B → Type 0) (f : ℕ → A → A) (g : ℕ → B → B) (k : ℕ) → ((n : ℕ) (a : A) (b : B) → n < k → R n a b → R (suc n) (f n a) (g n b))
-    → (n : ℕ) (a : A) (b : B) → n ≤ k → R 0 a b → R n (turns f n a) (turns g n b)
-unfolding turns
-turns-both R f g k h zero a b l p = p
-turns-both R f g k h (suc n) a b l p = h n (turns f n a) (turns g n b) (omega arith) (turns-both R f g k h n a b (omega arith) p)
 
 -- lists of eight that agree outside the set
 abbrev SameAt : {A : Type 0} → ℕ → A → List A → List A → Type 0

@@ -11,7 +11,6 @@ use lib.Seq.{getD-set-same, getD-set-other}
 use Rattle.numbers.specs.Signed.{highZ}
 use Rattle.numbers.specs.Bits.{bit, withBit}
 use Rattle.numbers.proofs.Bits.{bit-here, bit-there}
-use Rattle.numbers.specs.Listed.{turns}
 use Rattle.dsp.specs.Machine.{noVoice, apart}
 use Rattle.dsp.specs.Mix.{outputOf}
 use Rattle.dsp.specs.Sheet.{laneBytes, pairBytes}
@@ -21,6 +20,7 @@ use Rattle.dsp.specs.Tick.{Round, turn, voicesTick, everything, startOf, shared
 use Rattle.dsp.specs.declared.voice.Voice.{Voice}
 use Rattle.dsp.proofs.Whole.{full}
 use Rattle.rework.specs.Shown.{lanesOf, RowShows}
+use Rattle.rework.proofs.Right.{turns-both}
 
 -- ---- a voice's registers, after ENVX, OUTX and the ENDX bit of voice n were put
 
@@ -90,16 +90,12 @@ lanes-turn old c ram n r l h =
       row = λ i. (h .row ∙ sym s) i ++ laneBytes (outputOf (sym v i)) (sym e i) (sym d i);
     })
 
-lanes-after : (old : List ℕ) (c : Shared) (ram : List ℕ) (n : ℕ) (r : Round) → n ≤ 8 → Lanes 0 r → Lanes n (turns (turn 0xFF old c ram) n r)
-unfolding turns
-lanes-after old c ram zero r l h = h
-lanes-after old c ram (suc n) r l h = lanes-turn old c ram n (turns (turn 0xFF old c ram) n r) l (lanes-after old c ram n r (omega arith) h)
-
 pub row-shows : RowShows
 unfolding tickOf voicesTick lanesOf echoLane echoTick echoMoved
 row-shows d ram old v =
     let p = apart d in
     let c = sharedOf (p .globals) (p .registers) in
-    let h = lanes-after old c ram 8 (startOf p) (omega arith) (record { registers = v .registers; voices = v .voices; row = refl }) in
+    let f = turn 0xFF old c ram in
+    let h = turns-both (λ (n : ℕ) (r t : Round). Lanes n r) f f 8 (λ n r t. lanes-turn old c ram n r) 8 (startOf p) (startOf p) (omega arith) (record { registers = v .registers; voices = v .voices; row = refl }) in
     let g = tickOf everything old p ram .parts .globals in
     ap (λ (xs : List ℕ). xs ++ pairBytes (g .«echo_out_l») (g .«echo_out_r»)) (h .row)
