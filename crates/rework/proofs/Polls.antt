@@ -1,19 +1,18 @@
 -- Every voice polled first, then the noise, then the voices: the same tick as `tickOf`, which polls each voice in its lane. A poll of a voice
 -- passes over the steps of the voices before it, and with its own step makes its turn.
-use mathlib.Core.Bool.{Bool, true, false}
-use mathlib.Core.List.{List, [], _∷_, _++_}
+use mathlib.Core.Bool.{Bool, false}
+use mathlib.Core.List.{List, [], _++_}
 use mathlib.Core.Logic.{_≢_}
-use mathlib.Core.Path.{_≡_, refl, sym, ap, subst, _∙_}
+use mathlib.Core.Path.{_≡_, refl, sym, ap, _∙_}
 use Prim.Native.Nat.{ℕ, zero, suc, _+_, _*_, _^_, _≤_, _<_}
 use native.Mathlib.Nat.{zero-div}
 use native.Mathlib.Omega.{arith}
 use native.Mathlib.Decide.{ℕ-discrete}
 use lib.IntN.{ℤ}
 use lib.ListN.{getD, set, length, length-set}
-use lib.Seq.{getD-set-same, getD-set-other, set-set, set-comm}
+use lib.Seq.{getD-set-same, getD-set-other, set-getD, set-set, set-comm}
 use Rattle.numbers.specs.Choice.{if_then_else_}
-use Rattle.numbers.specs.Signed.{highZ}
-use Rattle.numbers.proofs.Choice.{chosen}
+use Rattle.numbers.proofs.Choice.{tested, chosen, chosen-both}
 use Rattle.numbers.specs.Bits.{bit, withBit}
 use Rattle.numbers.proofs.Bits.{bit-here, bit-there, with-byte, byte-ext}
 use Rattle.numbers.specs.Listed.{turns}
@@ -27,7 +26,7 @@ use Rattle.dsp.specs.declared.voice.Voice.{Voice}
 use Rattle.numbers.proofs.Turns.{turns-keep, turns-same}
 use Rattle.dsp.proofs.Whole.{full, tick-whole}
 use Rattle.rework.specs.Order.{Polled, pollOne, polledParts, echoBehind, PollFirst}
-use Rattle.rework.proofs.Shows.{put-sized, put-endx}
+use Rattle.rework.proofs.Shows.{shown, shown-sized, put-over, put-is, put-sized, put-endx}
 
 -- ---- bits of a byte
 
@@ -125,72 +124,56 @@ module _ (c : Shared) (ram : List ℕ) where
 
   -- ---- the registers
 
-  -- ENVX and OUTX of voice n
-  abbrev outs : ℕ → ℕ → ℤ → List ℕ → List ℕ
-  outs n envx out bytes = set (set bytes (n * 16 + 8) envx) (n * 16 + 9) (highZ out)
+  -- a poll stores into ENDX alone
+  abbrev cleared : ℕ → ℕ → ℕ
+  cleared j w =
+      if on j then withBit w j false else
+      w
 
-  -- ENVX, OUTX and the ENDX bit, over any ENDX byte w
-  put-over : (n envx : ℕ) (out : ℤ) (endx : Bool) (bytes : List ℕ) (w : ℕ) → n < 8 → length bytes ≡ 128
-      → putBytes n envx out endx (set bytes 0x7C w) ≡ set (outs n envx out bytes) 0x7C (withBit w n endx)
-  unfolding putBytes
-  put-over n envx out endx bytes w l z =
-      let o = outs n envx out bytes in
-      let e : outs n envx out (set bytes 0x7C w) ≡ set o 0x7C w =
-      ap (λ (xs : List ℕ). set xs (n * 16 + 9) (highZ out)) (set-comm bytes 0x7C (n * 16 + 8) w envx (λ q. absurd (omega arith)))
-      ∙ set-comm (set bytes (n * 16 + 8) envx) 0x7C (n * 16 + 9) w (highZ out) (λ q. absurd (omega arith)) in
-      let s : length o ≡ 128 = length-set (set bytes (n * 16 + 8) envx) (n * 16 + 9) (highZ out) ∙ length-set bytes (n * 16 + 8) envx ∙ z in
-      ap (λ (xs : List ℕ). set xs 0x7C (withBit (getD xs 0x7C 0) n endx)) e
-      ∙ set-set o 0x7C w (withBit (getD (set o 0x7C w) 0x7C 0) n endx)
-      ∙ ap (λ (x : ℕ). set o 0x7C (withBit x n endx)) (getD-set-same o 0x7C w 0 (omega arith))
+  abbrev polled : ℕ → List ℕ → List ℕ
+  polled j bytes =
+      if on j then putEndx j false bytes else
+      bytes
 
-  put-is : (n envx : ℕ) (out : ℤ) (endx : Bool) (bytes : List ℕ) → n < 8 → putBytes n envx out endx bytes ≡ set (outs n envx out bytes) 0x7C (withBit (getD bytes 0x7C 0) n endx)
-  unfolding putBytes
-  put-is n envx out endx bytes l =
-      ap (λ (x : ℕ). set (outs n envx out bytes) 0x7C (withBit x n endx))
-      (getD-set-other (set bytes (n * 16 + 8) envx) (n * 16 + 9) 0x7C (highZ out) 0 (λ q. absurd (omega arith))
-      ∙ getD-set-other bytes (n * 16 + 8) 0x7C envx 0 (λ q. absurd (omega arith)))
-
-  -- the poll of the voice itself, under its step
-  put-own : (b : Bool) (n envx : ℕ) (out : ℤ) (endx : Bool) (bytes : List ℕ) → n < 8 → length bytes ≡ 128 → getD bytes 0x7C 0 < 256
-      → putBytes n envx out endx (if b then putEndx n false bytes else bytes) ≡ putBytes n envx out endx bytes
-  put-own true n envx out endx bytes l z h =
-      put-over n envx out endx bytes (withBit (getD bytes 0x7C 0) n false) l z
-      ∙ ap (set (outs n envx out bytes) 0x7C) (with-over (getD bytes 0x7C 0) n false endx h l) ∙ sym (put-is n envx out endx bytes l)
-  put-own false n envx out endx bytes l z h = refl
-
-  -- the poll of another passes over it
-  put-past : (b : Bool) (n j envx : ℕ) (out : ℤ) (endx : Bool) (bytes : List ℕ) → n < 8 → j < 8 → n ≢ j → length bytes ≡ 128 → getD bytes 0x7C 0 < 256
-      → putBytes n envx out endx (if b then putEndx j false bytes else bytes) ≡ (if b then putEndx j false (putBytes n envx out endx bytes) else putBytes n envx out endx bytes)
-  put-past true n j envx out endx bytes l m d z h =
-      let x = getD bytes 0x7C 0 in
-      let o = outs n envx out bytes in
-      let s : length o ≡ 128 = length-set (set bytes (n * 16 + 8) envx) (n * 16 + 9) (highZ out) ∙ length-set bytes (n * 16 + 8) envx ∙ z in
-      put-over n envx out endx bytes (withBit x j false) l z
-      ∙ ap (set o 0x7C) (with-swap x n j false endx h l m d)
-      ∙ sym
-      (ap (putEndx j false) (put-is n envx out endx bytes l)
-      ∙ set-set o 0x7C (withBit x n endx) (withBit (getD (set o 0x7C (withBit x n endx)) 0x7C 0) j false)
-      ∙ ap (λ (y : ℕ). set o 0x7C (withBit y j false)) (getD-set-same o 0x7C (withBit x n endx) 0 (omega arith)))
-  put-past false n j envx out endx bytes l m d z h = refl
-
-  -- ---- what a poll leaves of the registers
+  poll-is : (j : ℕ) (bytes : List ℕ) → polled j bytes ≡ set bytes 0x7C (cleared j (getD bytes 0x7C 0))
+  poll-is j bytes = tested (λ (xs : List ℕ). xs ≡ set bytes 0x7C (cleared j (getD bytes 0x7C 0))) (on j) (λ e. rw e) (λ e. rw e (sym (set-getD bytes 0x7C 0)))
 
   -- any byte but ENDX
-  poll-byte : (b : Bool) (j i : ℕ) (bytes : List ℕ) → i ≢ 0x7C → getD (if b then putEndx j false bytes else bytes) i 0 ≡ getD bytes i 0
-  poll-byte true j i bytes h = getD-set-other bytes 0x7C i (withBit (getD bytes 0x7C 0) j false) 0 h
-  poll-byte false j i bytes h = refl
+  poll-byte : (j i : ℕ) (bytes : List ℕ) → i ≢ 0x7C → getD (polled j bytes) i 0 ≡ getD bytes i 0
+  poll-byte j i bytes h = rw (poll-is j bytes) (getD-set-other bytes 0x7C i _ 0 h)
 
-  poll-own : (b : Bool) (n : ℕ) (bytes : List ℕ) → n < 8 → length bytes ≡ 128
-      → bit (getD (if b then putEndx n false bytes else bytes) 0x7C 0) n ≡ (if b then false else bit (getD bytes 0x7C 0) n)
-  poll-own true n bytes l z =
-      ap (λ (x : ℕ). bit x n) (getD-set-same bytes 0x7C (withBit (getD bytes 0x7C 0) n false) 0 (omega arith)) ∙ bit-here (getD bytes 0x7C 0) n false
-  poll-own false n bytes l z = refl
+  module _ (bytes : List ℕ) (z : length bytes ≡ 128) where
+    poll-endx : (j : ℕ) → getD (polled j bytes) 0x7C 0 ≡ cleared j (getD bytes 0x7C 0)
+    poll-endx j = rw (poll-is j bytes) (getD-set-same bytes 0x7C _ 0 (omega arith))
 
-  poll-past : (b : Bool) (n j : ℕ) (bytes : List ℕ) → n < 8 → j < 8 → n ≢ j → length bytes ≡ 128
-      → bit (getD (if b then putEndx j false bytes else bytes) 0x7C 0) n ≡ bit (getD bytes 0x7C 0) n
-  poll-past true n j bytes l m d z =
-      ap (λ (x : ℕ). bit x n) (getD-set-same bytes 0x7C (withBit (getD bytes 0x7C 0) j false) 0 (omega arith)) ∙ bit-there (getD bytes 0x7C 0) j n false d
-  poll-past false n j bytes l m d z = refl
+    poll-own : (n : ℕ) → bit (getD (polled n bytes) 0x7C 0) n ≡ (if on n then false else bit (getD bytes 0x7C 0) n)
+    poll-own n =
+        let x = getD bytes 0x7C 0 in
+        rw (poll-endx n) (tested (λ (y : ℕ). bit y n ≡ (if on n then false else bit x n)) (on n) (λ e. rw e (bit-here x n false)) (λ e. rw e))
+
+    poll-past : (n j : ℕ) → n ≢ j → bit (getD (polled j bytes) 0x7C 0) n ≡ bit (getD bytes 0x7C 0) n
+    poll-past n j d =
+        let x = getD bytes 0x7C 0 in
+        rw (poll-endx j) (chosen (λ (y : ℕ). bit y n ≡ bit x n) (on j) (bit-there x j n false d) refl)
+
+    -- ENVX, OUTX and the ENDX bit of voice n over a poll
+    module _ (n envx : ℕ) (out : ℤ) (endx : Bool) (l : n < 8) (h : getD bytes 0x7C 0 < 256) where
+      -- of the voice itself, under its step
+      put-own : putBytes n envx out endx (polled n bytes) ≡ putBytes n envx out endx bytes
+      put-own =
+          let x = getD bytes 0x7C 0 in
+          rw (poll-is n bytes, put-over n envx out endx bytes l z (cleared n x), put-is n envx out endx bytes l z)
+          (ap (set (shown n envx out endx bytes l z) 0x7C) (chosen (λ (y : ℕ). withBit y n endx ≡ withBit x n endx) (on n) (with-over x n false endx h l) refl))
+
+      -- of another, which passes over it
+      put-past : (j : ℕ) → j < 8 → n ≢ j → putBytes n envx out endx (polled j bytes) ≡ polled j (putBytes n envx out endx bytes)
+      put-past j m d =
+          let x = getD bytes 0x7C 0 in
+          let o = shown n envx out endx bytes l z in
+          let y = withBit x n endx in
+          rw (put-is n envx out endx bytes l z, poll-is j (set o 0x7C y), poll-is j bytes, put-over n envx out endx bytes l z (cleared j x))
+          (rw (set-set, getD-set-same o 0x7C y 0 (omega (arith, shown-sized n envx out endx bytes l z)))
+          (ap (set o 0x7C) (chosen-both (λ (v w : ℕ). withBit v n endx ≡ w) (on j) (with-swap x n j false endx h l m d) refl)))
 
   -- ---- lengths
 
@@ -200,19 +183,16 @@ module _ (c : Shared) (ram : List ℕ) where
         voices = length-set (r .voices) n (x .voice) ∙ h .voices;
         delays = length-set (r .delays) n (x .delay) ∙ h .delays;
         bytes = put-sized n (x .envx) (x .out) (x .endx) (r .bytes) l (h .bytes);
-        endx = subst (λ (y : ℕ). y < 256) (sym (put-endx n (x .envx) (x .out) (x .endx) (r .bytes) l (h .bytes))) (with-byte (getD (r .bytes) 0x7C 0) n (x .endx) (h .endx) l);
+        endx = rw (put-endx n (x .envx) (x .out) (x .endx) (r .bytes) l (h .bytes)) (with-byte (getD (r .bytes) 0x7C 0) n (x .endx) (h .endx) l);
       }
 
   sized-poll : (j : ℕ) (r : Round) → j < 8 → Sized r → Sized (poll j r)
   sized-poll j r l h =
-      let w = withBit (getD (r .bytes) 0x7C 0) j false in
       record {
         voices = length-set (r .voices) j _ ∙ h .voices;
         delays = length-set (r .delays) j _ ∙ h .delays;
-        bytes = chosen (λ (xs : List ℕ). length xs ≡ 128) (on j) (length-set (r .bytes) 0x7C w ∙ h .bytes) (h .bytes);
-        endx =
-            chosen (λ (xs : List ℕ). getD xs 0x7C 0 < 256) (on j)
-            (subst (λ (y : ℕ). y < 256) (sym (getD-set-same (r .bytes) 0x7C w 0 (omega (arith, h .bytes)))) (with-byte (getD (r .bytes) 0x7C 0) j false (h .endx) l)) (h .endx);
+        bytes = rw (poll-is j (r .bytes)) (length-set (r .bytes) 0x7C _ ∙ h .bytes);
+        endx = rw (poll-endx (r .bytes) (h .bytes) j) (chosen (λ (y : ℕ). y < 256) (on j) (with-byte (getD (r .bytes) 0x7C 0) j false (h .endx) l) (h .endx));
       }
 
   -- ---- a poll and a step
@@ -227,9 +207,9 @@ module _ (c : Shared) (ram : List ℕ) where
       let d = polledDelay (on n) (getD (r .delays) n 0) in
       let ev = getD-set-same (r .voices) n w noVoice (omega (arith, h .voices)) in
       let ed = getD-set-same (r .delays) n d 0 (omega (arith, h .delays)) in
-      let es = poll-byte (on n) n (n * 16 + 4) b (λ q. absurd (omega arith)) in
-      let ex = poll-byte (on n) n (n * 16 + 8) b (λ q. absurd (omega arith)) in
-      let ee = poll-own (on n) n b l (h .bytes) in
+      let es = poll-byte n (n * 16 + 4) b (λ q. absurd (omega arith)) in
+      let ex = poll-byte n (n * 16 + 8) b (λ q. absurd (omega arith)) in
+      let ee = poll-own b (h .bytes) n in
       let x = ownCell c ram n (r .sums .prev) v (getD (r .delays) n 0) b in
       ap (put n (poll n r))
       ((λ i. cellOf (behind c) ram n (r .sums .prev) (ev i) (ed i) (es i) (ex i) (ee i))
@@ -237,7 +217,7 @@ module _ (c : Shared) (ram : List ℕ) where
       ∙ (λ i. record {
         voices = set-set (r .voices) n w (x .voice) i;
         delays = set-set (r .delays) n d (x .delay) i;
-        bytes = put-own (on n) n (x .envx) (x .out) (x .endx) b l (h .bytes) (h .endx) i;
+        bytes = put-own b (h .bytes) n (x .envx) (x .out) (x .endx) l (h .endx) i;
         sums = whole n r .sums;
         row = whole n r .row;
       })
@@ -252,9 +232,9 @@ module _ (c : Shared) (ram : List ℕ) where
       let w : Voice → Voice = polledVoice (off j) (on j) (c .«dir_base») in
       let ev = getD-set-other (r .voices) j n (w (getD (r .voices) j noVoice)) noVoice far in
       let ed = getD-set-other (r .delays) j n (polledDelay (on j) (getD (r .delays) j 0)) 0 far in
-      let es = poll-byte (on j) j (n * 16 + 4) b (λ e. absurd (omega arith)) in
-      let ex = poll-byte (on j) j (n * 16 + 8) b (λ e. absurd (omega arith)) in
-      let ee = poll-past (on j) n j b l m far (h .bytes) in
+      let es = poll-byte j (n * 16 + 4) b (λ e. absurd (omega arith)) in
+      let ex = poll-byte j (n * 16 + 8) b (λ e. absurd (omega arith)) in
+      let ee = poll-past b (h .bytes) n j far in
       let x = ownCell (behind c) ram n (r .sums .prev) (getD (r .voices) n noVoice) (getD (r .delays) n 0) b in
       let back : j ≢ n = (λ e. far (sym e)) in
       ap (put n (poll j r)) (λ i. cellOf (behind c) ram n (r .sums .prev) (ev i) (ed i) (es i) (ex i) (ee i))
@@ -265,7 +245,7 @@ module _ (c : Shared) (ram : List ℕ) where
         delays =
             (set-comm (r .delays) j n (polledDelay (on j) (getD (r .delays) j 0)) (x .delay) back
             ∙ ap (λ (v : ℕ). set (set (r .delays) n (x .delay)) j (polledDelay (on j) v)) (sym (getD-set-other (r .delays) n j (x .delay) 0 back))) i;
-        bytes = put-past (on j) n j (x .envx) (x .out) (x .endx) b l m far (h .bytes) (h .endx) i;
+        bytes = put-past b (h .bytes) n (x .envx) (x .out) (x .endx) l (h .endx) j m far i;
         sums = step n r .sums;
         row = step n r .row;
       })

@@ -7,7 +7,7 @@ use Prim.Native.Nat.{ℕ, zero, suc, _+_, _*_, _≤_, _<_}
 use native.Mathlib.Omega.{arith}
 use lib.IntN.{ℤ}
 use lib.ListN.{getD, set, length, length-set}
-use lib.Seq.{getD-set-same, getD-set-other}
+use lib.Seq.{getD-set-same, getD-set-other, set-getD, set-set, set-comm}
 use Rattle.numbers.specs.Signed.{highZ}
 use Rattle.numbers.specs.Bits.{bit, withBit}
 use Rattle.numbers.proofs.Bits.{bit-here, bit-there}
@@ -25,36 +25,41 @@ use Rattle.rework.proofs.Right.{turns-both}
 -- ---- a voice's registers, after ENVX, OUTX and the ENDX bit of voice n were put
 
 module _ (n envx : ℕ) (out : ℤ) (endx : Bool) (bytes : List ℕ) (l : n < 8) (sized : length bytes ≡ 128) where
-  abbrev shown : List ℕ
+  -- but for ENDX
+  abbrev pub shown : List ℕ
   shown = set (set bytes (n * 16 + 8) envx) (n * 16 + 9) (highZ out)
 
-  -- any other register but ENDX
-  put-other : (i : ℕ) → i ≢ n * 16 + 8 → i ≢ n * 16 + 9 → getD shown i 0 ≡ getD bytes i 0
-  put-other i a b = getD-set-other (set bytes (n * 16 + 8) envx) (n * 16 + 9) i (highZ out) 0 b ∙ getD-set-other bytes (n * 16 + 8) i envx 0 a
+  pub shown-sized : length shown ≡ 128
+  shown-sized = simp length-set sized
 
-  pub put-envx : getD (putBytes n envx out endx bytes) (n * 16 + 8) 0 ≡ envx
+  shown-other : (i : ℕ) → i ≢ n * 16 + 8 → i ≢ n * 16 + 9 → getD shown i 0 ≡ getD bytes i 0
+  shown-other i a b = getD-set-other (set bytes (n * 16 + 8) envx) (n * 16 + 9) i (highZ out) 0 b ∙ getD-set-other bytes (n * 16 + 8) i envx 0 a
+
+  -- over any ENDX byte w
+  pub put-over : (w : ℕ) → putBytes n envx out endx (set bytes 0x7C w) ≡ set shown 0x7C (withBit w n endx)
   unfolding putBytes
-  put-envx =
-      getD-set-other shown 0x7C (n * 16 + 8) _ 0 (λ e. absurd (omega arith))
-      ∙ getD-set-other (set bytes (n * 16 + 8) envx) (n * 16 + 9) (n * 16 + 8) (highZ out) 0 (λ e. absurd (omega arith))
-      ∙ getD-set-same bytes (n * 16 + 8) envx 0 (omega arith)
+  put-over w =
+      rw (set-comm bytes 0x7C (n * 16 + 8) w envx (λ e. absurd (omega arith)), set-comm (set bytes (n * 16 + 8) envx) 0x7C (n * 16 + 9) w (highZ out) (λ e. absurd (omega arith)))
+      (rw (set-set, getD-set-same shown 0x7C w 0 (omega (arith, shown-sized))))
 
-  pub put-there : (i : ℕ) → i ≢ n * 16 + 8 → i ≢ n * 16 + 9 → i ≢ 0x7C → getD (putBytes n envx out endx bytes) i 0 ≡ getD bytes i 0
-  unfolding putBytes
-  put-there i a b c = getD-set-other shown 0x7C i _ 0 c ∙ put-other i a b
-
-  shown-sized : length shown ≡ 128
-  shown-sized = length-set (set bytes (n * 16 + 8) envx) (n * 16 + 9) (highZ out) ∙ length-set bytes (n * 16 + 8) envx ∙ sized
+  pub put-is : putBytes n envx out endx bytes ≡ set shown 0x7C (withBit (getD bytes 0x7C 0) n endx)
+  put-is = rw (set-getD bytes 0x7C 0) at (put-over (getD bytes 0x7C 0))
 
   pub put-sized : length (putBytes n envx out endx bytes) ≡ 128
-  unfolding putBytes
-  put-sized = length-set shown 0x7C (withBit (getD shown 0x7C 0) n endx) ∙ shown-sized
+  put-sized = rw put-is (length-set shown 0x7C _ ∙ shown-sized)
 
   pub put-endx : getD (putBytes n envx out endx bytes) 0x7C 0 ≡ withBit (getD bytes 0x7C 0) n endx
-  unfolding putBytes
-  put-endx =
-      getD-set-same shown 0x7C (withBit (getD shown 0x7C 0) n endx) 0 (omega (arith, shown-sized))
-      ∙ ap (λ (x : ℕ). withBit x n endx) (put-other 0x7C (λ e. absurd (omega arith)) (λ e. absurd (omega arith)))
+  put-endx = rw put-is (getD-set-same shown 0x7C _ 0 (omega (arith, shown-sized)))
+
+  put-envx : getD (putBytes n envx out endx bytes) (n * 16 + 8) 0 ≡ envx
+  put-envx =
+      rw put-is
+      (getD-set-other shown 0x7C (n * 16 + 8) _ 0 (λ e. absurd (omega arith))
+      ∙ getD-set-other (set bytes (n * 16 + 8) envx) (n * 16 + 9) (n * 16 + 8) (highZ out) 0 (λ e. absurd (omega arith))
+      ∙ getD-set-same bytes (n * 16 + 8) envx 0 (omega arith))
+
+  put-there : (i : ℕ) → i ≢ n * 16 + 8 → i ≢ n * 16 + 9 → i ≢ 0x7C → getD (putBytes n envx out endx bytes) i 0 ≡ getD bytes i 0
+  put-there i a b c = rw put-is (getD-set-other shown 0x7C i _ 0 c ∙ shown-other i a b)
 
 -- ---- the lanes
 
