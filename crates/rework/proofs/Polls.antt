@@ -52,6 +52,26 @@ with-swap x n j a b l m q d =
           ]
     ])
 
+-- ---- rounds
+
+-- what a cell of voice n leaves of a round
+abbrev put : Shared → ℕ → Round → Cell → Round
+put c n r x =
+    record {
+      voices = set (r .voices) n (x .voice);
+      delays = set (r .delays) n (x .delay);
+      bytes = putBytes n (x .envx) (x .out) (x .endx) (r .bytes);
+      sums = added (bit (c .eon) n) (x .out) (x .voice .«left_vol») (x .voice .«right_vol») (r .sums);
+      row = r .row ++ laneBytes (x .out) (x .envx) (x .endx);
+    }
+
+abbrev worked : Shared → List ℕ → ℕ → Round → Round
+worked c ram n r = put c n r (ownCell c ram n (r .sums .prev) (getD (r .voices) n noVoice) (getD (r .delays) n 0) (r .bytes))
+
+turn-is : (c : Shared) (ram : List ℕ) (n : ℕ) (r : Round) → n < 8 → turn 0xFF [] c ram n r ≡ worked c ram n r
+unfolding turn turned
+turn-is c ram n r l = rw (full n l)
+
 -- ---- a poll, and the step behind it
 
 -- what all voices see, behind the poll
@@ -78,33 +98,12 @@ module _ (c : Shared) (ram : List ℕ) where
       (λ b. cellAfter c n (waited ram (c .dir) srcn (sourceOf (c .pmon) n prev) envx (polledDelay b (polledDelay (on n) delay)) (record { voice = polledVoice b b (c .«dir_base») (s .voice); endx = polledEndx b (s .endx) }))) in
       ap by (no-bit n)
 
-  -- ---- rounds
-
-  -- what a cell of voice n leaves of a round
-  abbrev put : ℕ → Round → Cell → Round
-  put n r x =
-      record {
-        voices = set (r .voices) n (x .voice);
-        delays = set (r .delays) n (x .delay);
-        bytes = putBytes n (x .envx) (x .out) (x .endx) (r .bytes);
-        sums = added (bit (c .eon) n) (x .out) (x .voice .«left_vol») (x .voice .«right_vol») (r .sums);
-        row = r .row ++ laneBytes (x .out) (x .envx) (x .endx);
-      }
-
   -- a turn in which the voice polls itself, and one behind the poll
   abbrev whole : ℕ → Round → Round
-  whole n r = put n r (ownCell c ram n (r .sums .prev) (getD (r .voices) n noVoice) (getD (r .delays) n 0) (r .bytes))
+  whole = worked c ram
 
   abbrev step : ℕ → Round → Round
-  step n r = put n r (ownCell (behind c) ram n (r .sums .prev) (getD (r .voices) n noVoice) (getD (r .delays) n 0) (r .bytes))
-
-  turn-is : (old : List ℕ) (n : ℕ) (r : Round) → n < 8 → turn 0xFF old c ram n r ≡ whole n r
-  unfolding turn turned
-  turn-is old n r l = rw (full n l)
-
-  step-is : (old : List ℕ) (n : ℕ) (r : Round) → n < 8 → turn 0xFF old (behind c) ram n r ≡ step n r
-  unfolding turn turned
-  step-is old n r l = rw (full n l)
+  step = worked (behind c) ram
 
   -- the poll of voice j in a round
   abbrev in-round : Round → Polled → Round
@@ -177,7 +176,7 @@ module _ (c : Shared) (ram : List ℕ) where
 
   -- ---- lengths
 
-  sized-put : (n : ℕ) (r : Round) (x : Cell) → n < 8 → Sized r → Sized (put n r x)
+  sized-put : (n : ℕ) (r : Round) (x : Cell) → n < 8 → Sized r → Sized (put c n r x)
   sized-put n r x l h =
       record {
         voices = length-set (r .voices) n (x .voice) ∙ h .voices;
@@ -211,7 +210,7 @@ module _ (c : Shared) (ram : List ℕ) where
       let ex = poll-byte n (n * 16 + 8) b (λ q. absurd (omega arith)) in
       let ee = poll-own b (h .bytes) n in
       let x = ownCell c ram n (r .sums .prev) v (getD (r .delays) n 0) b in
-      ap (put n (poll n r))
+      ap (put c n (poll n r))
       ((λ i. cellOf (behind c) ram n (r .sums .prev) (ev i) (ed i) (es i) (ex i) (ee i))
       ∙ cell-behind n (r .sums .prev) v (getD (r .delays) n 0) (getD b (n * 16 + 4) 0) (getD b (n * 16 + 8) 0) (bit (getD b 0x7C 0) n))
       ∙ (λ i. record {
@@ -237,7 +236,7 @@ module _ (c : Shared) (ram : List ℕ) where
       let ee = poll-past b (h .bytes) n j far in
       let x = ownCell (behind c) ram n (r .sums .prev) (getD (r .voices) n noVoice) (getD (r .delays) n 0) b in
       let back : j ≢ n = (λ e. far (sym e)) in
-      ap (put n (poll j r)) (λ i. cellOf (behind c) ram n (r .sums .prev) (ev i) (ed i) (es i) (ex i) (ee i))
+      ap (put c n (poll j r)) (λ i. cellOf (behind c) ram n (r .sums .prev) (ev i) (ed i) (es i) (ex i) (ee i))
       ∙ (λ i. record {
         voices =
             (set-comm (r .voices) j n (w (getD (r .voices) j noVoice)) (x .voice) back
@@ -275,9 +274,8 @@ module _ (c : Shared) (ram : List ℕ) where
 
   polls-first : (r : Round) → Sized r → turns (turn 0xFF [] (behind c) ram) 8 (rest 8 0 r) ≡ turns (turn 0xFF [] c ram) 8 r
   polls-first r h =
-      turns-same (turn 0xFF [] (behind c) ram) step 8 (λ n s l. step-is [] n s l) 8 (rest 8 0 r) (omega arith)
-      ∙ steps-turns 8 0 r (omega arith) h
-      ∙ sym (turns-same (turn 0xFF [] c ram) whole 8 (λ n s l. turn-is [] n s l) 8 r (omega arith))
+      turns-same (turn 0xFF [] (behind c) ram) step 8 (turn-is (behind c) ram) 8 (rest 8 0 r) (omega arith) ∙ steps-turns 8 0 r (omega arith) h
+      ∙ sym (turns-same (turn 0xFF [] c ram) whole 8 (turn-is c ram) 8 r (omega arith))
 
 -- ---- the tick
 
