@@ -20,7 +20,7 @@ use Rattle.log.proofs.Turn.{taken}
 use Rattle.sitting.specs.Run.{Outcome, runOf}
 use Rattle.rework.specs.Alike.{stays, without}
 use Rattle.rework.specs.Members.{modesOf, quiet}
-use Rattle.rework.specs.Rework.{Left, refusalOf, reworkOf, afterFirst, reworkNewOf}
+use Rattle.rework.specs.Rework.{Left, refusalOf, reworkOf, reworkNewOf}
 use Rattle.rework.specs.Demands.{Bytes, Reworks, Demand3New}
 use Rattle.rework.proofs.Taped.{taped}
 use Rattle.rework.proofs.Sheets.{sumIn, puts, measured-sums}
@@ -89,14 +89,13 @@ module _ (s : ℕ) (ram log₁ log₂ pcm sheet readings : List ℕ) (b₁ : Byt
         (ap (λ (o : Outcome). o .refusal) (run-is everything newDsp ram log₁ pcm sheet readings f)) (ap (λ (o : Outcome). o .refusal) (run-is everything newDsp ram log₂ pcm sheet readings fits-second))
         (lengths .0) (lengths .1)
 
-  pub after : Unrefused s newDsp newDsp ram log₁ log₂ → afterFirst s ram log₁ log₂ first .refusal ≡ 0 → Reworks s newDsp log₂ first second (afterFirst s ram log₁ log₂ first)
-  after u =
-      tested (λ (x : Left). x .refusal ≡ 0 → Reworks s newDsp log₂ first second x) (first .refusal =? 0)
-      (λ e _. reworks u (unrefused everything newDsp ram log₁ pcm sheet readings (eqb-true _ _ e))) (λ e z. absurd (eqb-false _ _ e z))
-
 pub demand3-new : Demand3New
 unfolding reworkNewOf
 demand3-new s ram log₁ log₂ pcm sheet readings b₁ b₂ =
-    tested (λ (x : Left). x .refusal ≡ 0 → Reworks s newDsp log₂ (runOf newDsp ram log₁ pcm sheet readings) (runOf newDsp ram log₂ pcm sheet readings) x) (refusalOf s newDsp newDsp ram log₁ log₂ =? 0)
-    (λ e. after s ram log₁ log₂ pcm sheet readings b₁ b₂ (passed s newDsp newDsp ram log₁ log₂ (eqb-true _ _ e)))
+    let o = runOf newDsp ram log₁ pcm sheet readings in
+    let P : Left → Type 0 = (λ x. x .refusal ≡ 0 → Reworks s newDsp log₂ o (runOf newDsp ram log₂ pcm sheet readings) x) in
+    tested P (refusalOf s newDsp newDsp ram log₁ log₂ =? 0)
+    (λ e. tested P (o .refusal =? 0)
+    (λ f _. reworks s ram log₁ log₂ pcm sheet readings b₁ b₂ (passed s newDsp newDsp ram log₁ log₂ (eqb-true _ _ e)) (unrefused everything newDsp ram log₁ pcm sheet readings (eqb-true _ _ f)))
+    (λ f z. absurd (eqb-false _ _ f z)))
     (λ e z. absurd (eqb-false _ _ e z))

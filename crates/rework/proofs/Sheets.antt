@@ -92,8 +92,6 @@ ticks-more w zero bs k q h old p ram = rw (zero-add k) (h old p ram)
 ticks-more w (suc n) bs k q h old p ram =
     let t = tickOf w old p ram in
     let e = ticks-more w n bs k q h (drop 36 old) (t .parts) (t .ram) in
-    let a = e .rows in
-    let b = e .pcm in
     record { rows = omega arith; pcm = omega arith; readings = e .readings }
 
 pub puts : (w : Work) (rs : List Record) (old : List ℕ) (p : Parts) (ram : List ℕ) → Puts (sumIn ticksIn rs) (sumIn readingsIn rs) (tape w (beats rs) old p ram)
@@ -103,9 +101,6 @@ puts w (Write i v ∷ rs) old p ram = puts-as (puts w rs old (writeParts i v p) 
 puts w (Ticks n ∷ rs) old p ram = puts-as (ticks-more w n (beats rs) (sumIn ticksIn rs) (sumIn readingsIn rs) (puts w rs) old p ram) refl (omega arith)
 puts w (Reading r ∷ rs) old p ram =
     let e = puts w rs old p ram in
-    let a = e .rows in
-    let b = e .pcm in
-    let c = e .readings in
     record { rows = omega arith; pcm = omega arith; readings = omega arith }
 
 -- the ticks and readings of a log that is refused by nothing
@@ -118,7 +113,7 @@ total-sums [] stop t q T Q =
 total-sums (r ∷ rs) stop t q T Q =
     tested (λ (m : Measured). m ≡ good T Q → (T ≡ t + (ticksIn r + sumIn ticksIn rs)) × (Q ≡ q + (readingsIn r + sumIn readingsIn rs))) (32000 <? t + ticksIn r)
     (λ _ e. let z : _≡_ {A = ℕ} 7 0 = ap (λ (m : Measured). m .refusal) e in absurd (omega arith))
-    (λ _ e. let z = total-sums rs stop (t + ticksIn r) (q + readingsIn r) T Q e in let x = z .0 in let y = z .1 in (omega arith, omega arith))
+    (λ _ e. let z = total-sums rs stop (t + ticksIn r) (q + readingsIn r) T Q e in (omega arith, omega arith))
 
 pub measured-sums : (log : List ℕ) → measureOf log .refusal ≡ 0
     → (measureOf log .ticks ≡ sumIn ticksIn (decode log .records)) × (measureOf log .readings ≡ sumIn readingsIn (decode log .records))
