@@ -68,9 +68,7 @@ pub rows-count : (a : ℕ) {xs ys : List (List ℕ)} → Rows a xs ys → length
 rows-count a none = refl
 rows-count a (more s r) = ap suc (rows-count a r)
 
--- ---- as many rows as the records have ticks
-
--- ---- how many: what each record counts for, summed
+-- ---- as many rows as the records have ticks: what each record counts for, summed
 
 unfoldable pub sumIn : (Record → ℕ) → List Record → ℕ
 sumIn f [] = 0

@@ -17,10 +17,6 @@ Inv-loop set old new i₀ j₀ i j = alike set (recordsFrom old 0) (recordsFrom 
 abbrev μ-loop : tie.MeasureT-loop
 μ-loop set old new i₀ j₀ i j = length old - i
 
-loop-holds : tie.Need-loop-holds Inv-loop μ-loop
-unfolding alike
-loop-holds c = refl
-
 returns : tie.Need-returns Inv-loop μ-loop
 unfolding sameRecords decode
 returns c =
@@ -70,12 +66,13 @@ loop-again c =
     rw (p .0, q .0, sym (c .before .is-same .ensures) ∙ not-false _ (c .if1 .left)) at (on .before .before .before .loop .inv)
 
 pub are-alike-spec : {M : Type 1} → statement M
+unfolding alike
 are-alike-spec =
     tie.close
     (tie.spec
     Inv-loop
     μ-loop
-    loop-holds
+    (λ c. refl)
     (λ c κs. search needs)
     (λ c. search needs)
     (λ c. search needs)

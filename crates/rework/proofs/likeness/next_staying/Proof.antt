@@ -17,16 +17,10 @@ Inv-loop set log from at₀ at = (without set (recordsFrom log from) ≡ without
 abbrev μ-loop : tie.MeasureT-loop
 μ-loop set log from at₀ at = length log - at
 
-loop-holds : tie.Need-loop-holds Inv-loop μ-loop
-loop-holds c = (refl, search needs)
-
 returns : tie.Need-returns Inv-loop μ-loop
 returns c =
     let l = c .before .before .before .loop in
     l .inv .0 ∙ closed _ _ (l .at) (c .before .before .read .ensures .0) (c .enum-told .given .1)
-
-is-staying-requires : tie.Need-is-staying-requires Inv-loop μ-loop
-is-staying-requires c κs = known _ _ (c .before .found .given .1) (c .before .before .before .read .ensures .1)
 
 returns-2 : tie.Need-returns-2 Inv-loop μ-loop
 returns-2 c =
@@ -55,12 +49,12 @@ next-staying-spec =
     (tie.spec
     Inv-loop
     μ-loop
-    loop-holds
+    (λ c. (refl, search needs))
     (λ c κs. search needs)
     (λ c. search needs)
     (λ c. search needs)
     returns
-    is-staying-requires
+    (λ c κs. known _ _ (c .before .found .given .1) (c .before .before .before .read .ensures .1))
     returns-2
     loop-less
     loop-again)
