@@ -2,7 +2,7 @@
 -- run's sheet agrees there with the second's, and the rework over it gives the second run (`right`).
 use mathlib.Core.Bool.{true, _&&_}
 use mathlib.Core.List.{List, [], _∷_, flatten}
-use mathlib.Core.Path.{_≡_, refl, sym, ap, subst, _∙_}
+use mathlib.Core.Path.{_≡_, refl, sym, ap, _∙_}
 use Prim.Native.Nat.{ℕ, _*_}
 use lib.ListN.{length, drop}
 use borrow.Author.Tests.{eq-eqb}
@@ -24,7 +24,7 @@ use Rattle.rework.specs.Members.{modesOf, quiet, members}
 use Rattle.rework.specs.Differ.{SameBut}
 use Rattle.rework.specs.Rework.{endParts, refusalOf, setOf, only, reworked, reworkOf}
 use Rattle.rework.specs.Demands.{Bytes, Demand3}
-use Rattle.rework.proofs.Tape.{Beat, beats, keep, modesIn, joins, Tape, tape, Rows, Kept, Sim, Right}
+use Rattle.rework.proofs.Tape.{beats, modesIn, Tape, tape, Rows, Kept, Sim, Right}
 use Rattle.rework.proofs.Right.{Sized36, rows-36, right}
 use Rattle.rework.proofs.Kept.{kept}
 use Rattle.rework.proofs.Ends.{end-parts}
@@ -99,26 +99,22 @@ module _ (s : ℕ) (d₁ d₂ : Dsp) (ram log₁ log₂ : List ℕ) (same : Same
   pub quiet-same : quiet rs₁ (modesOf d₁) ≡ true → quiet rs₂ (modesOf d₂) ≡ true
   quiet-same q = sym (quiet-without s rs₂ (modesOf d₂)) ∙ (λ i. quiet (sym logs i) (sym modes-same i)) ∙ quiet-without s rs₁ (modesOf d₁) ∙ q
 
-  -- outside the set both runs agree with the run of what their logs have in common, and so with one another
+  -- outside the set a run agrees with the run of what both logs have in common
+  agrees : (d : Dsp) (log o : List ℕ) → Bytes log → Whole (apart d) ram → Whole (apart d₂) ram → SameBut s (apart d) (apart d₂) → quiet (decode log .records) (modesOf d) ≡ true
+      → members (decode log .records) (modesOf d) s ≡ setOf s d₂ log₂ → without s (decode log .records) ≡ without s rs₂
+      → Kept (setOf s d₂ log₂) ram (tape everything (beats (decode log .records)) o (apart d) ram) (tape everything (beats (without s rs₂)) [] (apart d₂) ram)
+  agrees d log o b h h₂ e q m w =
+      let rs = decode log .records in
+      let k = kept s (beats rs) s o [] (apart d) (apart d₂) ram (h .room) (small-beats log b) (h .good) (h₂ .good) (λ j l t. t) e (quiet-beats rs (modesOf d) q) in
+      rw (joins-beats rs (modesOf d) s ∙ m, keep-beats s rs ∙ ap beats w) at k
+
+  -- and so both with one another
   pub runs : (o₁ o₂ : List ℕ) → Bytes log₁ → Bytes log₂ → Whole (apart d₁) ram → Whole (apart d₂) ram → quiet rs₁ (modesOf d₁) ≡ true
       → Runs (setOf s d₂ log₂) (tape everything (beats rs₁) o₁ (apart d₁) ram) (tape everything (beats rs₂) o₂ (apart d₂) ram)
   runs o₁ o₂ b₁ b₂ h₁ h₂ q =
-      let a = setOf s d₂ log₂ in
-      let x = tape everything (beats rs₁) o₁ (apart d₁) ram in
-      let y = tape everything (beats rs₂) o₂ (apart d₂) ram in
-      let z = tape everything (beats (without s rs₂)) [] (apart d₂) ram in
-      let k₁ = kept s (beats rs₁) s o₁ [] (apart d₁) (apart d₂) ram (h₁ .room) (small-beats log₁ b₁) (h₁ .good) (h₂ .good) (λ j l e. e) same (quiet-beats rs₁ (modesOf d₁) q) in
-      let k₂ = kept s (beats rs₂) s o₂ [] (apart d₂) (apart d₂) ram (h₂ .room) (small-beats log₂ b₂) (h₂ .good) (h₂ .good) (λ j l e. e) (same-self s (apart d₂)) (quiet-beats rs₂ (modesOf d₂) (quiet-same q)) in
-      let e₁ : joins (beats rs₁) (modesOf d₁) s ≡ a = joins-beats rs₁ (modesOf d₁) s ∙ set-same in
-      let e₂ : joins (beats rs₂) (modesOf d₂) s ≡ a = joins-beats rs₂ (modesOf d₂) s in
-      let f₁ : keep s (beats rs₁) ≡ beats (without s rs₂) = keep-beats s rs₁ ∙ ap beats logs in
-      let f₂ : keep s (beats rs₂) ≡ beats (without s rs₂) = keep-beats s rs₂ in
-      let g₁ : Kept a ram x z = subst (λ (c : List Beat). Kept a ram x (tape everything c [] (apart d₂) ram)) f₁ (subst (λ (n : ℕ). Kept n ram x (tape everything (keep s (beats rs₁)) [] (apart d₂) ram)) e₁ k₁) in
-      let g₂ : Kept a ram y z = subst (λ (c : List Beat). Kept a ram y (tape everything c [] (apart d₂) ram)) f₂ (subst (λ (n : ℕ). Kept n ram y (tape everything (keep s (beats rs₂)) [] (apart d₂) ram)) e₂ k₂) in
-      record {
-        parts = same-both a (x .parts) (y .parts) (z .parts) (g₁ .parts) (g₂ .parts);
-        rows = rows-both a (g₁ .rows) (g₂ .rows);
-      }
+      let g₁ = agrees d₁ log₁ o₁ b₁ h₁ h₂ same q set-same logs in
+      let g₂ = agrees d₂ log₂ o₂ b₂ h₂ h₂ (same-self s (apart d₂)) (quiet-same q) refl refl in
+      record { parts = same-both (setOf s d₂ log₂) _ _ _ (g₁ .parts) (g₂ .parts); rows = rows-both (setOf s d₂ log₂) (g₁ .rows) (g₂ .rows) }
 
 -- ---- the refusals
 

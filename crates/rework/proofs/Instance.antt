@@ -1,16 +1,17 @@
 -- What is computed once: the programs that must not get through, each at an input of its own; and an instance of demand 3, two lessons
 -- that differ in the GAIN of voice 3, in which voice 4 joins late. While voice 3 is in the set and PMON selects voice 5, nothing joins;
 -- once PMON selects voice 4, that does, and voice 5 stays out.
-use mathlib.Core.Bool.{Bool, true, false, _&&_, true≢false}
+use mathlib.Core.Bool.{true, false, true≢false}
 use mathlib.Core.List.{List, [], _∷_}
 use mathlib.Core.Logic.{_≢_}
 use mathlib.Core.Path.{_≡_, refl, sym, ap, _∙_}
-use Prim.Native.Nat.{ℕ, zero, suc, _*_}
+use Prim.Native.Nat.{ℕ, _*_}
 use native.Mathlib.Omega.{arith}
 use lib.ListN.{getD, drop, replicate}
 use lib.Signed.{mag}
-use borrow.Author.Tests.{eqb-false}
+use borrow.Author.Tests.{eqb-false, ltb-true}
 use Rattle.numbers.specs.Choice.{_<?_, _=?_}
+use Rattle.numbers.proofs.Lists.{all-at}
 use Rattle.numbers.specs.Bits.{withBit}
 use Rattle.numbers.specs.Listed.{listed, turns, folded, all}
 use Rattle.sound.specs.Clock.{periods, periodOf}
@@ -35,7 +36,6 @@ use Rattle.dsp.specs.Ticks.{benchTick, ticksOf, stepOf}
 use Rattle.sound.specs.Sound.{firSum, firOf}
 use Rattle.dsp.specs.declared.voice.Voice.{Voice}
 use Rattle.dsp.specs.declared.registers.Dsp.{Dsp}
-use Rattle.dsp.proofs.Tests.{lt, _and_}
 use Rattle.log.specs.Log.{writeRecord, ticksRecord, readingRecord, byMark, readAt, decodeFrom, decode}
 use Rattle.log.specs.Measure.{measureOf}
 use Rattle.sitting.specs.Run.{Outcome, runOf, runMeasured, runWith}
@@ -46,7 +46,6 @@ use Rattle.rework.specs.Refusals.{firstOf}
 use Rattle.rework.specs.Demands.{Bytes, Reworks}
 use Rattle.rework.specs.NotThrough.{ram, put, ticks, ask, end, unclamped, NotThrough}
 use Rattle.rework.specs.Alike.{without, sameRecord, sameRecords, alike}
-use Rattle.rework.proofs.Bits.{itself}
 use Rattle.rework.proofs.Keeps.{new-value}
 use Rattle.rework.proofs.Demand3.{same-self, demand3}
 
@@ -151,16 +150,11 @@ not-through = computed .1
 
 -- ---- so demand 3 speaks of it
 
-abbrev bytes : List ℕ → Bool
-bytes [] = true
-bytes (x ∷ xs) = (x <? 256) && bytes xs
-
-are-bytes : (xs : List ℕ) → bytes xs ≡ true → Bytes xs
-are-bytes [] e i = omega arith
-are-bytes (x ∷ xs) e zero = (lt x 256 and itself (bytes xs)) .sound e .0
-are-bytes (x ∷ xs) e (suc i) = are-bytes xs ((lt x 256 and itself (bytes xs)) .sound e .1) i
+are-bytes : (xs : List ℕ) → all (λ x. x <? 256) xs ≡ true → Bytes xs
+are-bytes xs e i = ltb-true _ _ (all-at (λ (x : ℕ). x <? 256) 0 xs e refl i)
 
 pub met : Reworks 0x08 newDsp (lesson 0x40) (run 0x7F) (run 0x40) again
+unfolding all
 met =
     demand3 0x08 newDsp newDsp ram (lesson 0x7F) (lesson 0x40) pcm sheet told pcm sheet told pcm told new-value new-value (are-bytes (lesson 0x7F) refl) (are-bytes (lesson 0x40) refl)
     (same-self 0x08 (apart newDsp)) (seen .logs) (seen .quiet-is) (seen .first-runs) (seen .second-runs) refl refl
