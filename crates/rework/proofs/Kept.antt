@@ -39,7 +39,7 @@ use Rattle.rework.specs.Alike.{named}
 use Rattle.rework.specs.Members.{Fields, modesAfter, joinedBy}
 use Rattle.rework.specs.Differ.{Outside, SameBytes, SameBut}
 use Rattle.rework.proofs.Bits.{itself, unless, joined-more, joined-closed}
-use Rattle.rework.proofs.Lanes.{lane-last}
+use Rattle.rework.proofs.Lanes.{cellIn, slotOf, lane-last}
 use Rattle.rework.proofs.Right.{set-both, turns-both, Good, good-write, good-tick}
 use Rattle.rework.proofs.Tape.{Beat, put, tick, ask, Small, keep, modesIn, Quiet, joins, tape, modes-tick, SameLanes, none, more, Kept}
 
@@ -231,11 +231,10 @@ beside-turn : (a : ℕ) (c : Shared) (ram o₁ o₂ : List ℕ) (n : ℕ) (r s :
     → Beside a (c .pmon) (suc n) (turn 0xFF o₁ c ram n r) (turn 0xFF o₂ c ram n s)
 unfolding turn turned added laneBytes
 beside-turn a c ram o₁ o₂ n r s l h b =
-    let x = ownCell c ram n (r .sums .prev) (getD (r .voices) n noVoice) (getD (r .delays) n 0) (r .bytes) in
-    let y = ownCell c ram n (s .sums .prev) (getD (s .voices) n noVoice) (getD (s .delays) n 0) (s .bytes) in
+    let x = cellIn c ram n r in
+    let y = cellIn c ram n s in
     let e : Outside a n → x ≡ y =
     (λ o. cell-same c ram n (r .sums .prev) (s .sums .prev) (r .bytes) (s .bytes) (b .prev l o) (b .voices n l o) (b .delays n l o) (b .bytes .own n 4 l (omega arith) o) (b .bytes .own n 8 l (omega arith) o) (b .bytes .endx n l o)) in
-    let slot : Cell → List ℕ = (λ z. laneBytes (z .out) (z .envx) (z .endx)) in
     let f₁ = fit-kept-turn 0xFF o₁ c ram n r l (b .fit₁) in
     let f₂ = fit-kept-turn 0xFF o₂ c ram n s l (b .fit₂) in
     rw (full n l)
@@ -245,9 +244,9 @@ beside-turn a c ram o₁ o₂ n r s l h b =
       bytes = put-same a n x y (r .bytes) (s .bytes) (bytes-long (b .fit₁) (b .fit₂)) e (b .bytes);
       voices = same-set a noVoice (r .voices) (s .voices) n (x .voice) (y .voice) (voices-long (b .fit₁) (b .fit₂)) (λ o i. e o i .voice) (b .voices);
       delays = same-set a 0 (r .delays) (s .delays) n (x .delay) (y .delay) (delays-long (b .fit₁) (b .fit₂)) (λ o i. e o i .delay) (b .delays);
-      row₁ = length-append (r .row) (slot x) ∙ omega (arith, b .row₁);
-      row₂ = length-append (s .row) (slot y) ∙ omega (arith, b .row₂);
-      lanes = lanes-more (Outside a) n (r .row) (s .row) (slot x) (slot y) (b .row₁) (b .row₂) refl refl (λ o i. slot (e o i)) (b .lanes);
+      row₁ = length-append (r .row) (slotOf x) ∙ omega (arith, b .row₁);
+      row₂ = length-append (s .row) (slotOf y) ∙ omega (arith, b .row₂);
+      lanes = lanes-more (Outside a) n (r .row) (s .row) (slotOf x) (slotOf y) (b .row₁) (b .row₂) refl refl (λ o i. slotOf (e o i)) (b .lanes);
       prev = λ m o t i. even (e (before a (c .pmon) n h (omega arith) o t) i .out);
     })
 

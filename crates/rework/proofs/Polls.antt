@@ -19,13 +19,13 @@ use Rattle.numbers.specs.Listed.{turns}
 use Rattle.dsp.specs.Machine.{noVoice, apart}
 use Rattle.dsp.specs.Keys.{keyedOff, keyedOn, polledVoice, polledEndx, polledDelay}
 use Rattle.dsp.specs.Voice.{Sounding}
-use Rattle.dsp.specs.Sheet.{laneBytes}
 use Rattle.dsp.specs.Lane.{waited, sourceOf, Cell, polledOf, waitedOf, cellAfter, cellOf, putEndx, putBytes, added, ownCell, turned, Shared}
 use Rattle.dsp.specs.Tick.{Round, turn, voicesTick, globalsTick, sharedOf, startOf, tickOf}
 use Rattle.dsp.specs.declared.voice.Voice.{Voice}
 use Rattle.numbers.proofs.Turns.{turns-keep, turns-same}
 use Rattle.dsp.proofs.Whole.{full, tick-whole}
 use Rattle.rework.specs.Order.{Polled, pollOne, polledParts, echoBehind, PollFirst}
+use Rattle.rework.proofs.Lanes.{cellIn, slotOf}
 use Rattle.rework.proofs.Shows.{shown, shown-sized, put-over, put-is, put-sized, put-endx}
 
 -- ---- bits of a byte
@@ -62,11 +62,11 @@ put c n r x =
       delays = set (r .delays) n (x .delay);
       bytes = putBytes n (x .envx) (x .out) (x .endx) (r .bytes);
       sums = added (bit (c .eon) n) (x .out) (x .voice .«left_vol») (x .voice .«right_vol») (r .sums);
-      row = r .row ++ laneBytes (x .out) (x .envx) (x .endx);
+      row = r .row ++ slotOf x;
     }
 
 abbrev worked : Shared → List ℕ → ℕ → Round → Round
-worked c ram n r = put c n r (ownCell c ram n (r .sums .prev) (getD (r .voices) n noVoice) (getD (r .delays) n 0) (r .bytes))
+worked c ram n r = put c n r (cellIn c ram n r)
 
 turn-is : (c : Shared) (ram : List ℕ) (n : ℕ) (r : Round) → n < 8 → turn 0xFF [] c ram n r ≡ worked c ram n r
 unfolding turn turned
@@ -209,7 +209,7 @@ module _ (c : Shared) (ram : List ℕ) where
       let es = poll-byte n (n * 16 + 4) b (λ q. absurd (omega arith)) in
       let ex = poll-byte n (n * 16 + 8) b (λ q. absurd (omega arith)) in
       let ee = poll-own b (h .bytes) n in
-      let x = ownCell c ram n (r .sums .prev) v (getD (r .delays) n 0) b in
+      let x = cellIn c ram n r in
       ap (put c n (poll n r))
       ((λ i. cellOf (behind c) ram n (r .sums .prev) (ev i) (ed i) (es i) (ex i) (ee i))
       ∙ cell-behind n (r .sums .prev) v (getD (r .delays) n 0) (getD b (n * 16 + 4) 0) (getD b (n * 16 + 8) 0) (bit (getD b 0x7C 0) n))
@@ -234,7 +234,7 @@ module _ (c : Shared) (ram : List ℕ) where
       let es = poll-byte j (n * 16 + 4) b (λ e. absurd (omega arith)) in
       let ex = poll-byte j (n * 16 + 8) b (λ e. absurd (omega arith)) in
       let ee = poll-past b (h .bytes) n j far in
-      let x = ownCell (behind c) ram n (r .sums .prev) (getD (r .voices) n noVoice) (getD (r .delays) n 0) b in
+      let x = cellIn (behind c) ram n r in
       let back : j ≢ n = (λ e. far (sym e)) in
       ap (put c n (poll j r)) (λ i. cellOf (behind c) ram n (r .sums .prev) (ev i) (ed i) (es i) (ex i) (ee i))
       ∙ (λ i. record {

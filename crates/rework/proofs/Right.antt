@@ -36,7 +36,7 @@ use Rattle.dsp.proofs.Ticks.{RoundFit, BenchFit, fit-kept-turn, fit-kept-bench,
 use Rattle.dsp.proofs.Fits.{level-fit}
 use Rattle.dsp.proofs.Moves.{volumes-kept}
 use Rattle.rework.specs.Differ.{Outside, Value}
-use Rattle.rework.proofs.Lanes.{lane-last}
+use Rattle.rework.proofs.Lanes.{cellIn, slotOf, lane-last}
 use Rattle.rework.proofs.Sixteen.{Is16, joined-halves, output16, fir16, noise16, sample16}
 use Rattle.rework.proofs.Tape.{Beat, put, tick, ask, Small, Quiet, modesIn, tape, modes-tick, SameLanes, bare, Sim, Over, upon, Right}
 
@@ -94,9 +94,6 @@ record Shows (x y : Cell) : Type 0 where
   left : x .voice .«left_vol» ≡ y .voice .«left_vol»
   right : x .voice .«right_vol» ≡ y .voice .«right_vol»
 
-abbrev slotOf : Cell → List ℕ
-slotOf x = laneBytes (x .out) (x .envx) (x .endx)
-
 endx-read : (b : Bool) → ((if b then 1 else 0) % 2 =? 1) ≡ b
 endx-read true = refl
 endx-read false = refl
@@ -106,10 +103,6 @@ shown-read : (y : Cell) (v : Voice) (delay : ℕ) → Is16 (y .out) → v .«lef
     → Shows (shownCell (slotOf y) v delay) y
 unfolding shownCell laneBytes
 shown-read y v delay h l r = record { out = joined-halves (y .out) h; envx = refl; endx = endx-read (y .endx); left = l; right = r }
-
--- the cell that the run's voice j comes to
-abbrev cellIn : Shared → List ℕ → ℕ → Round → Cell
-cellIn c ram j s = ownCell c ram j (s .sums .prev) (getD (s .voices) j noVoice) (getD (s .delays) j 0) (s .bytes)
 
 -- a rework's round beside the run's
 record Abreast (a : ℕ) (r s : Round) : Type 0 where

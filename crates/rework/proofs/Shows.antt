@@ -20,6 +20,7 @@ use Rattle.dsp.specs.Tick.{Round, turn, voicesTick, everything, startOf, shared
 use Rattle.dsp.specs.declared.voice.Voice.{Voice}
 use Rattle.dsp.proofs.Whole.{full}
 use Rattle.rework.specs.Shown.{lanesOf, RowShows}
+use Rattle.rework.proofs.Lanes.{cellIn}
 use Rattle.rework.proofs.Right.{turns-both}
 
 -- ---- a voice's registers, after ENVX, OUTX and the ENDX bit of voice n were put
@@ -82,7 +83,7 @@ record Lanes (n : ℕ) (r : Round) : Type 0 where
 lanes-turn : (old : List ℕ) (c : Shared) (ram : List ℕ) (n : ℕ) (r : Round) → n < 8 → Lanes n r → Lanes (suc n) (turn 0xFF old c ram n r)
 unfolding turn turned ownCell cellOf cellAfter lanesOf
 lanes-turn old c ram n r l h =
-    let x = ownCell c ram n (r .sums .prev) (getD (r .voices) n noVoice) (getD (r .delays) n 0) (r .bytes) in
+    let x = cellIn c ram n r in
     let b = r .bytes in
     let v = getD-set-same (r .voices) n (x .voice) noVoice (omega (arith, l, h .voices)) in
     let e = put-envx n (x .envx) (x .out) (x .endx) b l (h .registers) in
