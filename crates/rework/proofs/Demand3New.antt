@@ -38,9 +38,9 @@ sum-without f h s [] = refl
 sum-without f h s (Write r x ∷ rs) =
     let e = sum-without f h s rs in
     let z = h r x in
-    tested (λ (l : List Record). sumIn f l ≡ f (Write r x) + sumIn f rs) (stays s (Write r x)) (λ _. ap (λ (k : ℕ). f (Write r x) + k) e) (λ _. omega arith)
-sum-without f h s (Ticks n ∷ rs) = ap (λ (k : ℕ). f (Ticks n) + k) (sum-without f h s rs)
-sum-without f h s (Reading r ∷ rs) = ap (λ (k : ℕ). f (Reading r) + k) (sum-without f h s rs)
+    tested (λ (l : List Record). sumIn f l ≡ f (Write r x) + sumIn f rs) (stays s (Write r x)) (λ _. rw e) (λ _. omega arith)
+sum-without f h s (Ticks n ∷ rs) = rw (sum-without f h s rs)
+sum-without f h s (Reading r ∷ rs) = rw (sum-without f h s rs)
 
 sums-same : (f : Record → ℕ) → ((r x : ℕ) → f (Write r x) ≡ 0) → (s : ℕ) (rs qs : List Record) → without s rs ≡ without s qs → sumIn f rs ≡ sumIn f qs
 sums-same f h s rs qs e = sym (sum-without f h s rs) ∙ ap (sumIn f) e ∙ sum-without f h s qs

@@ -58,8 +58,8 @@ run-fit w d ram log pcm sheet readings v b f =
           let g = unrefused w d ram log pcm sheet readings z in
           let t = whole-tape w (beats (decode log .records)) sheet (apart d) ram (small-beats log b) (whole-start d ram v f (g .ram-whole)) in
           let p = taped w (decode log .records) (benchOf d ram sheet) [] in
-          subst IsFit (sym (ap (λ (x : Outcome). x .dsp) (run-is w d ram log pcm sheet readings g) ∙ ap together (p .parts))) (whole-fit t)
-      | no z ↦ subst IsFit (sym (ap (λ (x : Outcome). x .dsp) (run-exactly w d ram log pcm sheet readings .1 z))) f
+          rw (run-is w d ram log pcm sheet readings g, p .parts) (whole-fit t)
+      | no z ↦ rw (run-exactly w d ram log pcm sheet readings .1 z) f
     ]
 
 next-fit : (n : Next) (d : Dsp) (at size : ℕ) → Moves at size n → ByteValue n → IsFit d → IsFit (nextAt n d at .dsp)
@@ -75,9 +75,10 @@ next-fit (On (Reading r) behind) d at size m b f = f
 picked-keeps : {A : Type 0} (P : A → Type 0) (x : A) (a : ℕ) (new old : List A) → P x → (j : ℕ) → P (getD new j x) → P (getD old j x) → P (getD (picked x a new old) j x)
 unfolding picked
 picked-keeps P x a new old z j p q =
+    let f : ℕ → _ = (λ i. if bit a i then getD new i x else getD old i x) in
     elim (decLt j 8) [
-      | yes l ↦ subst P (sym (getD-listed (λ i. if bit a i then getD new i x else getD old i x) 8 j x l)) (chosen P (bit a j) p q)
-      | no l ↦ let f : ℕ → _ = (λ i. if bit a i then getD new i x else getD old i x) in let e = length-listed f 8 in subst P (sym (List·getD-eq-default (listed f 8) x {n = j} (omega arith))) z
+      | yes l ↦ rw (getD-listed f 8 j x l) (chosen P (bit a j) p q)
+      | no l ↦ rw (List·getD-eq-default (listed f 8) x {n = j} (omega (arith, length-listed f 8))) z
     ]
 
 end-fit : (a : ℕ) (new old : Dsp) → IsFit new → IsFit old → IsFit (together (endParts a (apart new) (apart old)))

@@ -189,7 +189,7 @@ lanes-more : (O : ℕ → Type 0) (n : ℕ) (x y u v : List ℕ) → length x �
     → ((j : ℕ) → j < n → O j → laneAt j x ≡ laneAt j y) → (j : ℕ) → j < suc n → O j → laneAt j (x ++ u) ≡ laneAt j (y ++ v)
 lanes-more O n x y u v lx ly lu lv e h j l o =
     elim (ℕ-discrete j n) [
-      | yes p ↦ rw p (lane-last n x u lx lu ∙ e (subst O p o) ∙ sym (lane-last n y v ly lv))
+      | yes p ↦ rw p (lane-last n x u lx lu ∙ e (rw p at o) ∙ sym (lane-last n y v ly lv))
       | no p ↦ lane-part j x u (omega arith) ∙ h j (omega arith) o ∙ sym (lane-part j y v (omega arith))
     ]
 

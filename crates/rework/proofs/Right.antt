@@ -123,7 +123,7 @@ land-both a j w c r s old new x y h e q z =
       count = length-set (r .voices) j (x .voice) ∙ h .count ∙ sym (length-set (s .voices) j (y .voice));
       beside = beside-set a j (r .voices) (s .voices) (x .voice) (y .voice) (h .count) (h .beside) (record { same = λ b k. q b k .voice; left = e .left; right = e .right });
       waits = length-set (r .delays) j (x .delay) ∙ h .waits ∙ sym (length-set (s .delays) j (y .delay));
-      delays = λ n l b. set-both _≡_ 0 (r .delays) (s .delays) j (x .delay) (y .delay) (h .waits) n (λ m k. q (subst (λ (i : ℕ). bit a i ≡ true) m b) k .delay) (h .delays n l b);
+      delays = λ n l b. set-both _≡_ 0 (r .delays) (s .delays) j (x .delay) (y .delay) (h .waits) n (λ m k. q (rw m at b) k .delay) (h .delays n l b);
       bytes = λ k. putBytes j (e .envx k) (e .out k) (e .endx k) (h .bytes k);
       sums = λ k. added (bit (c .eon) j) (e .out k) (e .left k) (e .right k) (h .sums k);
       row = λ k. h .row k ++ z k;
@@ -148,7 +148,7 @@ lane-both a j false c ram r s old new b l h o f =
     let y = cellIn c ram j s in
     let k = volumes-kept c ram j (s .sums .prev) (getD (s .voices) j noVoice) (getD (s .delays) j 0) (s .bytes) in
     let g = shown-read y v d o (h .beside j l .left ∙ k .0) (h .beside j l .right ∙ k .1) in
-    land-both a j false c r s old new (shownCell old v d) y h (subst (λ (z : List ℕ). Shows (shownCell z v d) y) (sym (f b)) g)
+    land-both a j false c r s old new (shownCell old v d) y h (rw (f b) g)
     (λ t. let z : _≡_ {A = ℕ} 0 1 = cc in absurd (omega arith)) (f b)
 
 -- ---- the run's rounds

@@ -48,7 +48,7 @@ pub over-rows : (a : ℕ) {xs ys : List (List ℕ)} → Sized36 xs → Rows a xs
 unfolding Sized36 flatten
 over-rows a h none = over
 over-rows a h (more {x = x} {y = y} {xs = xs} {ys = ys} s r) =
-    upon (λ j l o. front-lane j x (flatten xs) (h .0) l ∙ s j l o) (subst (λ (old : List ℕ). Over a old ys) (sym (drop-at x (flatten xs) 36 (h .0))) (over-rows a (h .1) r))
+    upon {rs = ys} (λ j l o. front-lane j x (flatten xs) (h .0) l ∙ s j l o) (rw (drop-at x (flatten xs) 36 (h .0)) (over-rows a (h .1) r))
 
 -- row t of both
 pub others : (a : ℕ) {xs ys : List (List ℕ)} → Sized36 xs → Sized36 ys → Rows a xs ys → (t j : ℕ) → j < 9 → (j < 8 → Outside a j)

@@ -47,7 +47,7 @@ cut-small : (x : ℤ) → mag (to16 x) < 0x8000
 cut-small x = let h = cutZ-any 0x8000 tt x (mag x) (le-refl (mag x)) tt .1 in omega arith
 
 pub small16 : (x : ℤ) → to16 x ≡ x → mag x < 0x8000
-small16 x e = subst (λ (y : ℤ). mag y < 0x8000) e (cut-small x)
+small16 x e = rw e at (cut-small x)
 
 pub cut16 : (x : ℤ) → Is16 (to16 x)
 cut16 x = is16 (to16 x) (cut-small x)
