@@ -1,5 +1,5 @@
 -- The records of a log and their beats: what stays, the set, quiet ticks, registers and values.
-use mathlib.Core.Bool.{Bool, true, false, not, _&&_, _||_}
+use mathlib.Core.Bool.{Bool, true, false, not, _||_}
 use mathlib.Core.List.{List, [], _∷_}
 use mathlib.Core.Path.{_≡_, refl, sym, ap, _∙_}
 use Prim.Native.Nat.{ℕ, zero, suc, _+_, _/_, _%_, _<_}
@@ -19,7 +19,7 @@ use Rattle.log.proofs.Places.{moves, ByteValue, byte-value}
 use Rattle.rework.specs.Alike.{named, stays, without}
 use Rattle.rework.specs.Members.{Fields, modesAfter, quiet, joinedBy, joinedOver, members}
 use Rattle.rework.proofs.Bits.{itself}
-use Rattle.rework.proofs.Tape.{Beat, put, tick, ask, ticksThen, beats, Small, keep, Quiet, joins}
+use Rattle.rework.proofs.Tape.{Beat, put, ticksThen, beats, Small, keep, Quiet, joins}
 
 -- ---- a named voice's own write changes neither field
 
@@ -35,16 +35,16 @@ unfolding ticksThen keep
 keep-ticks s zero bs = refl
 keep-ticks s (suc n) bs = rw (keep-ticks s n bs)
 
-keep-by : (s r x : ℕ) (b : Bool) (bs : List Beat) (rs : List Record) → named s r ≡ b → keep s bs ≡ beats rs
+keep-by : (s r x : ℕ) (b : Bool) (bs : List Beat) (rs : List Record) → keep s bs ≡ beats rs
     → (if b then keep s bs else put r x ∷ keep s bs) ≡ beats (if not b then Write r x ∷ rs else rs)
 unfolding beats
-keep-by s r x true bs rs eb e = e
-keep-by s r x false bs rs eb e = rw e
+keep-by s r x true bs rs e = e
+keep-by s r x false bs rs e = rw e
 
 pub keep-beats : (s : ℕ) (rs : List Record) → keep s (beats rs) ≡ beats (without s rs)
 unfolding keep beats without
 keep-beats s [] = refl
-keep-beats s (Write r x ∷ rs) = keep-by s r x (named s r) (beats rs) (without s rs) refl (keep-beats s rs)
+keep-beats s (Write r x ∷ rs) = keep-by s r x (named s r) (beats rs) (without s rs) (keep-beats s rs)
 keep-beats s (Ticks n ∷ rs) = keep-ticks s n (beats rs) ∙ ap (ticksThen n) (keep-beats s rs)
 keep-beats s (Reading r ∷ rs) = rw (keep-beats s rs)
 

@@ -190,8 +190,8 @@ demand3 s d₁ d₂ ram log₁ log₂ pcm₁ sheet₁ readings₁ pcm₂ sheet�
       sheet = sheet-is ∙ sym sheet₂-is;
       readings = (λ i. x-is i .readings) ∙ p₃ .readings ∙ g .readings ∙ sym ((λ i. i₂ i .readings) ∙ p₂ .readings);
       samples = (λ i. x-is i .pcm) ∙ p₃ .pcm ∙ ap flatten (g .frames) ∙ sym ((λ i. i₂ i .pcm) ∙ p₂ .pcm);
-      end = (λ i. x-is i .dsp) ∙ ap (λ (p : Parts). together (endParts a p (t₁ .parts))) (p₃ .parts) ∙ ap together en ∙ sym ((λ i. i₂ i .dsp) ∙ ap together (p₂ .parts));
+      end = (λ i. x-is i .dsp) ∙ (λ i. together (endParts a (p₃ .parts i) (t₁ .parts))) ∙ ap together en ∙ sym ((λ i. i₂ i .dsp) ∙ ap together (p₂ .parts));
       members = (λ i. x-is i .members);
       count = (λ i. x-is i .count);
-      others = λ t j l o. ap (λ (b : List ℕ). laneAt j (drop (t * 36) b)) sheet-is ∙ others a s₁ s₂ (r .rows) t j l o ∙ sym (ap (λ (b : List ℕ). laneAt j (drop (t * 36) b)) sheet₁-is);
+      others = λ t j l o. (λ i. laneAt j (drop (t * 36) (sheet-is i))) ∙ others a s₁ s₂ (r .rows) t j l o ∙ (λ i. laneAt j (drop (t * 36) (sym sheet₁-is i)));
     }

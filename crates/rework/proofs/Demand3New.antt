@@ -84,9 +84,9 @@ module _ (s : ℕ) (ram log₁ log₂ pcm sheet readings : List ℕ) (b₁ : Byt
 
     pub reworks : Reworks s newDsp log₂ first second (reworkOf s newDsp (first .dsp) ram log₁ log₂ (first .pcm) (first .sheet) (first .readings))
     reworks =
-        let q : quiet (decode log₁ .records) (modesOf newDsp) ≡ true = sym (quiet-without s (decode log₁ .records) (modesOf newDsp)) ∙ ap (λ (l : List Record). quiet l (modesOf newDsp)) (u .logs) ∙ quiet-without s (decode log₂ .records) (modesOf newDsp) ∙ u .still in
+        let q : quiet (decode log₁ .records) (modesOf newDsp) ≡ true = sym (quiet-without s (decode log₁ .records) (modesOf newDsp)) ∙ (λ i. quiet (u .logs i) (modesOf newDsp)) ∙ quiet-without s (decode log₂ .records) (modesOf newDsp) ∙ u .still in
         demand3 s newDsp newDsp ram log₁ log₂ pcm sheet readings pcm sheet readings (first .pcm) (first .readings) new-value new-value b₁ b₂ (same-self s (apart newDsp)) (u .logs) q
-        (ap (λ (o : Outcome). o .refusal) (run-is everything newDsp ram log₁ pcm sheet readings f)) (ap (λ (o : Outcome). o .refusal) (run-is everything newDsp ram log₂ pcm sheet readings fits-second))
+        (λ i. run-is everything newDsp ram log₁ pcm sheet readings f i .refusal) (λ i. run-is everything newDsp ram log₂ pcm sheet readings fits-second i .refusal)
         (lengths .0) (lengths .1)
 
 pub demand3-new : Demand3New

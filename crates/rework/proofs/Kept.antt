@@ -275,7 +275,7 @@ echo-same : (a : ℕ) (p q : Parts) (ram : List ℕ) (x y : Stereo) → SameBut 
 unfolding echoTick
 echo-same a p q ram x y s =
     let e : echoIn p ram x ≡ echoIn q ram x = (λ i. echoTick (globalsTick (s .globals i)) (s .taps i) (s .left i) (s .right i) ram x) in
-    (ap (λ (z : Echo). z .globals) e, ap (λ (z : Echo). z .left) e, ap (λ (z : Echo). z .right) e)
+    (λ i. e i .globals, λ i. e i .left, λ i. e i .right)
 
 -- two ticks that agree outside the set
 record Alongside (a : ℕ) (t u : Ticked) : Type 0 where

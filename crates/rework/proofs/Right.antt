@@ -343,8 +343,8 @@ mixed-both a slot found p q ram r s e b f h z =
       frame =
           ap frameOf
           (masters-both (echoFrom slot (globalsTick (p .globals))) (echoMoved k l m) (r .sums .dry) (s .sums .dry) g
-          (ap (λ (x : List ℕ). joined (getD x 0 0) (getD x 1 0)) z ∙ joined-halves l (echo16 k ram 0 (q .taps) (q .left)))
-          (ap (λ (x : List ℕ). joined (getD x 2 0) (getD x 3 0)) z ∙ joined-halves m (echo16 k ram 2 (q .taps) (q .right)))
+          ((λ i. joined (getD (z i) 0 0) (getD (z i) 1 0)) ∙ joined-halves l (echo16 k ram 0 (q .taps) (q .left)))
+          ((λ i. joined (getD (z i) 2 0) (getD (z i) 3 0)) ∙ joined-halves m (echo16 k ram 2 (q .taps) (q .right)))
           (λ i. h .sums i .dry));
       row = λ i. h .row i ++ z i;
       left = refl;

@@ -72,7 +72,7 @@ lanes-stay n envx out endx bytes vs y l z zero m = refl
 lanes-stay n envx out endx bytes vs y l z (suc k) m =
     let v = getD-set-other vs n k y noVoice (λ e. absurd (omega arith)) in
     let b = put-there n envx out endx bytes l z (k * 16 + 8) (λ e. absurd (omega arith)) (λ e. absurd (omega arith)) (λ e. absurd (omega arith)) in
-    let x = ap (λ (w : ℕ). bit w k) (put-endx n envx out endx bytes l z) ∙ bit-there (getD bytes 0x7C 0) n k endx (λ e. absurd (omega arith)) in
+    let x = (λ i. bit (put-endx n envx out endx bytes l z i) k) ∙ bit-there (getD bytes 0x7C 0) n k endx (λ e. absurd (omega arith)) in
     λ i. lanes-stay n envx out endx bytes vs y l z k (omega arith) i ++ laneBytes (outputOf (v i)) (b i) (x i)
 
 record Lanes (n : ℕ) (r : Round) : Type 0 where
@@ -87,7 +87,7 @@ lanes-turn old c ram n r l h =
     let b = r .bytes in
     let v = getD-set-same (r .voices) n (x .voice) noVoice (omega (arith, l, h .voices)) in
     let e = put-envx n (x .envx) (x .out) (x .endx) b l (h .registers) in
-    let d = ap (λ (w : ℕ). bit w n) (put-endx n (x .envx) (x .out) (x .endx) b l (h .registers)) ∙ bit-here (getD b 0x7C 0) n (x .endx) in
+    let d = (λ i. bit (put-endx n (x .envx) (x .out) (x .endx) b l (h .registers) i) n) ∙ bit-here (getD b 0x7C 0) n (x .endx) in
     let s = lanes-stay n (x .envx) (x .out) (x .endx) b (r .voices) (x .voice) l (h .registers) n (omega arith) in
     rw (full n l)
     (record {

@@ -1,6 +1,6 @@
 -- A play of records puts out the tape of its beats, behind what was put out before.
 use mathlib.Core.List.{List, [], _∷_, _++_, flatten, append-assoc, append-nil}
-use mathlib.Core.Path.{_≡_, refl, sym, ap, subst, _∙_}
+use mathlib.Core.Path.{_≡_, refl, sym, _∙_}
 use Prim.Native.Nat.{ℕ, zero, suc}
 use Rattle.dsp.specs.Tick.{Ticked, tickOf}
 use Rattle.dsp.specs.Ticks.{Bench, onward, benchTick, benchWrite, ticksOf}
