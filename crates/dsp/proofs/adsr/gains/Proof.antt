@@ -7,11 +7,11 @@ pub gains-spec : {M : Type 1} → statement M
 gains-spec =
     tie.close
     (tie.spec
-    (λ c. search needs)
-    (λ c. search needs)
-    (λ c. search needs)
-    (λ c. search needs)
-    (λ c. search needs)
+    (search needs)
+    (search needs)
+    (search needs)
+    (search needs)
+    (search needs)
     (λ c. rw (c .before .enum-told .given .1))
     (λ c. rw (c .before .enum-told2 .given .1))
     (λ c. rw (c .before .enum-told3 .given .1))

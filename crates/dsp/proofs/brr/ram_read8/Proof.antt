@@ -12,7 +12,7 @@ pub ram-read8-spec : {M : Type 1} → statement M
 ram-read8-spec =
     tie.close
     (tie.spec
-    (λ c κs. search needs)
-    (λ c. search needs)
-    (λ c. search needs)
+    (search needs)
+    (search needs)
+    (search needs)
     returns)

@@ -23,4 +23,4 @@ returns c =
     landed w16 (c .decode-brr-nibble .ok) ∙ _∙_ {b = e 1} e (λ i. decodeNibble (n i) (a .header / 16) (a .header / 4 % 4) (e₁ i) (e₂ i))
 
 pub sample-of-spec : {M : Type 1} → statement M
-sample-of-spec = tie.close (tie.spec (λ c. search needs) (λ c κs. search needs) returns)
+sample-of-spec = tie.close (tie.spec (search needs) (search needs) returns)

@@ -26,7 +26,7 @@ pub tap-spec : {M : Type 1} → statement M
 tap-spec =
     tie.close
     (tie.spec
-    (λ c. search needs)
+    (search needs)
     shared-slice-copy-out-result
     cast-result
     (λ c. fits (search quotes) tt)

@@ -14,4 +14,4 @@ returns-2 : tie.Need-returns-2
 returns-2 c = rw (c .before .if1 .left) (c .shown-cell .ensures)
 
 pub cell-spec : {M : Type 1} → statement M
-cell-spec = tie.close (tie.spec (λ c κs. search needs) (λ c κs. search needs) returns returns-2)
+cell-spec = tie.close (tie.spec (λ c κs. search needs) (search needs) returns returns-2)

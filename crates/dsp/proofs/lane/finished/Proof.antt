@@ -51,8 +51,8 @@ pub finished-spec : {M : Type 1} → statement M
 finished-spec =
     tie.close
     (tie.spec
-    (λ c κs. search needs)
-    (λ c κs. search needs)
+    (search needs)
+    (search needs)
     scaled-output-requires
-    (λ c κs. search needs)
+    (search needs)
     returns)

@@ -43,10 +43,10 @@ lane-spec =
     tie.close
     (tie.spec
     (λ c κs. search needs)
-    (λ c κs. search needs)
+    (search needs)
     put-slot-requires
     (λ c κs. tt)
-    (λ c κs. search needs)
+    (search needs)
     same-length
-    (λ c. search needs)
+    (search needs)
     returns)

@@ -24,15 +24,15 @@ pub put-bytes-spec : {M : Type 1} → statement M
 put-bytes-spec =
     tie.close
     (tie.spec
-    (λ c. search needs)
-    (λ c. search needs)
-    (λ c. search needs)
-    (λ c κs. search needs)
-    (λ c. search needs)
-    (λ c. search needs)
+    (search needs)
+    (search needs)
+    (search needs)
+    (search needs)
+    (search needs)
+    (search needs)
     (λ c. rw length-set (omega (arith, c .before .before .pre .0)))
     (λ c. search needs)
-    (λ c κs. search needs)
+    (search needs)
     (λ c. search needs)
-    (λ c. search needs)
+    (search needs)
     returns)

@@ -22,13 +22,13 @@ pub put-slot-spec : {M : Type 1} → statement M
 put-slot-spec =
     tie.close
     (tie.spec
-    (λ c κs. search needs)
-    (λ c. search needs)
-    (λ c κs. search needs)
-    (λ c. search needs)
-    (λ c. search needs)
-    (λ c κs. search needs)
+    (search needs)
+    (search needs)
+    (search needs)
     (λ c. search needs)
     (λ c. search needs)
+    (search needs)
+    (λ c. search needs)
+    (search needs)
     returns
     (λ c. search needs))

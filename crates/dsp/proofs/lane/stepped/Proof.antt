@@ -48,9 +48,9 @@ stepped-spec =
     (tie.spec
     (λ c κs. c .before .before .pre .5)
     (λ c κs. tt)
-    (λ c κs. search needs)
-    (λ c κs. search needs)
+    (search needs)
+    (search needs)
     (λ c κs. c .before .before .before .before .before .before .pre .5)
     waited-requires
-    (λ c. search needs)
+    (search needs)
     returns)

@@ -44,12 +44,12 @@ pub pitch-of-spec : {M : Type 1} → statement M
 pitch-of-spec =
     tie.close
     (tie.spec
-    (λ c. search needs)
-    (λ c. search needs)
+    (search needs)
+    (search needs)
     (λ c. fits (search (quotes, q-unsigned, q-elem16) depth 20) tt)
     (λ c. fits (search (quotes, q-unsigned, q-elem16) depth 20) tt)
     (λ c. fits (search (quotes, q-unsigned, q-elem16) depth 20) tt)
     cast-result-2
-    (λ c. search needs)
+    (search needs)
     returns
     returns-2)

@@ -39,11 +39,11 @@ pub attack-spec : {M : Type 1} → statement M
 attack-spec =
     tie.close
     (tie.spec
+    (search needs)
+    (search needs)
+    (search needs)
     (λ c κs. search needs)
-    (λ c. search needs)
-    (λ c. search needs)
-    (λ c κs. search needs)
-    (λ c κs. search needs)
+    (search needs)
     risen-requires-2
     returns
     returns-2

@@ -17,7 +17,7 @@ pub risen-spec : {M : Type 1} → statement M
 risen-spec =
     tie.close
     (tie.spec
-    (λ c. search needs)
-    (λ c κs. search needs)
+    (search needs)
+    (search needs)
     returns
     returns-2)

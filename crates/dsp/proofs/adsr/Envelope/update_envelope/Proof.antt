@@ -43,18 +43,18 @@ pub update-envelope-spec : {M : Type 1} → statement M
 update-envelope-spec =
     tie.close
     (tie.spec
-    (λ c κs. search needs)
+    (search needs)
     (λ c κs. search needs)
     returns
-    (λ c. search needs)
+    (search needs)
     (λ c κs. search needs)
-    (λ c. search needs)
+    (search needs)
     (λ c κs. search needs)
-    (λ c. search needs)
+    (search needs)
     (λ c κs. search needs)
-    (λ c. search needs)
-    (λ c κs. search needs)
-    (λ c. search needs)
+    (search needs)
+    (search needs)
+    (search needs)
     returns-2
     returns-3
     returns-4

@@ -20,6 +20,6 @@ advance-spec =
     tie.close
     (tie.spec
     (λ c κs. search needs)
-    (λ c κs. search needs)
+    (search needs)
     returns
     returns-2)

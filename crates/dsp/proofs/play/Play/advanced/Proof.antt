@@ -31,8 +31,8 @@ pub advanced-spec : {M : Type 1} → statement M
 advanced-spec =
     tie.close
     (tie.spec
-    (λ c κs. search needs)
+    (search needs)
     sub-n
     (λ c κs. c .before .before .before .before .pre)
-    (λ c. search needs)
+    (search needs)
     returns)

@@ -40,10 +40,10 @@ consume-spec =
     μ-loop
     (λ c. (record { sized = c .before .pre .1; block = c .before .pre .2 }, λ v. refl))
     take-one-requires
-    (λ c. search needs)
+    (search needs)
     returns
-    (λ c. search needs)
-    (λ c. search needs)
+    (search needs)
+    (search needs)
     loop-again
-    (λ c. search needs)
+    (search needs)
     (λ c. λ v. nothing-left _ _ _ _ _ (omega arith) ∙ c .before .loop .inv .1 v))

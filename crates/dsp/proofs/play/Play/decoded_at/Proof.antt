@@ -30,7 +30,7 @@ pub decoded-at-spec : {M : Type 1} → statement M
 decoded-at-spec =
     tie.close
     (tie.spec
-    (λ c κs. search needs)
-    (λ c κs. search needs)
-    (λ c. search needs)
+    (search needs)
+    (search needs)
+    (search needs)
     returns)

@@ -16,8 +16,8 @@ pub keyed-on-spec : {M : Type 1} → statement M
 keyed-on-spec =
     tie.close
     (tie.spec
-    (λ c. search needs)
-    (λ c. search needs)
-    (λ c κs. search needs)
+    (search needs)
+    (search needs)
+    (search needs)
     returns
     returns-2)

@@ -17,7 +17,7 @@ pub next-block-spec : {M : Type 1} → statement M
 next-block-spec =
     tie.close
     (tie.spec
-    (λ c κs. search needs)
-    (λ c κs. search needs)
-    (λ c. search needs)
+    (search needs)
+    (search needs)
+    (search needs)
     returns)

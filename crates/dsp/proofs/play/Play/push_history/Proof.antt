@@ -15,8 +15,8 @@ pub push-history-spec : {M : Type 1} → statement M
 push-history-spec =
     tie.close
     (tie.spec
-    (λ c. search needs)
-    (λ c. search needs)
-    (λ c. search needs)
-    (λ c. search needs)
+    (search needs)
+    (search needs)
+    (search needs)
+    (search needs)
     returns)

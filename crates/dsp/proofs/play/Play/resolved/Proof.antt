@@ -26,8 +26,8 @@ pub resolved-spec : {M : Type 1} → statement M
 resolved-spec =
     tie.close
     (tie.spec
-    (λ c κs. search needs)
-    (λ c κs. search needs)
-    (λ c. search needs)
+    (search needs)
+    (search needs)
+    (search needs)
     returns
     returns-2)

@@ -78,11 +78,11 @@ step-spec =
     tie.close
     (tie.spec
     (λ c κs. (c .before .before .before .pre .1, c .before .before .before .pre .4))
-    (λ c κs. search needs)
+    (search needs)
     returns
     (λ c κs. (c .before .before .before .before .before .before .before .pre .2, c .before .before .before .before .before .before .before .pre .3))
     (λ c κs. let r = after-resolve (c .before .before) in (c .before .before .before .before .before .before .before .before .before .before .pre .2, r .sized, r .block))
     (λ c κs. c .before .before .before .before .before .before .before .before .before .before .before .before .pre .0)
     (λ c. let h = small (c .before .before) in search needs)
-    (λ c. search needs)
+    (search needs)
     returns-2)

@@ -31,8 +31,8 @@ waited-spec =
     tie.close
     (tie.spec
     (λ c κs. c .before .before .before .before .pre)
-    (λ c κs. search needs)
-    (λ c. search needs)
-    (λ c. search needs)
+    (search needs)
+    (search needs)
+    (search needs)
     returns
     returns-2)

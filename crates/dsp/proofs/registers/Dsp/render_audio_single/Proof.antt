@@ -30,9 +30,9 @@ pub render-audio-single-spec : {M : Type 1} → statement M
 render-audio-single-spec =
     tie.close
     (tie.spec
-    (λ c κs. search needs)
-    (λ c κs. search needs)
+    (search needs)
+    (search needs)
     dry-requires
-    (λ c κs. search needs)
+    (search needs)
     returns
     returns-2)

@@ -37,13 +37,13 @@ pub step-spec : {M : Type 1} → statement M
 step-spec =
     tie.close
     (tie.spec
-    (λ c κs. search needs)
+    (search needs)
     returns
-    (λ c κs. search needs)
-    (λ c. search needs)
-    (λ c. search needs)
+    (search needs)
+    (search needs)
+    (search needs)
     drive-requires
-    (λ c κs. search needs)
-    (λ c. search needs)
+    (search needs)
+    (search needs)
     returns-2
     returns-3)

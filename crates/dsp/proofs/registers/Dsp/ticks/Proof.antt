@@ -53,19 +53,19 @@ pub ticks-spec : {M : Type 1} → statement M
 ticks-spec =
     tie.close
     (tie.spec
-    (λ c κs. search needs)
+    (search needs)
     returns
-    (λ c κs. search needs)
-    (λ c κs. search needs)
+    (search needs)
+    (search needs)
     returns-2
-    (λ c. search needs)
-    (λ c κs. search needs)
+    (search needs)
+    (search needs)
     returns-3
-    (λ c. search needs)
-    (λ c κs. search needs)
+    (search needs)
+    (search needs)
     returns-4
     drive-requires
-    (λ c. search needs)
-    (λ c. search needs)
-    (λ c. search needs)
+    (search needs)
+    (search needs)
+    (search needs)
     returns-5)

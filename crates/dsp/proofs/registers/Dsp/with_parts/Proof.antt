@@ -7,5 +7,5 @@ pub with-parts-spec : {M : Type 1} → statement M
 with-parts-spec =
     tie.close
     (tie.spec
-    (λ c κs. search needs)
+    (search needs)
     (λ c. rw (c .with-glob .ensures) (search needs)))

@@ -16,7 +16,7 @@ pub write-reg-spec : {M : Type 1} → statement M
 write-reg-spec =
     tie.close
     (tie.spec
-    (λ c κs. search needs)
-    (λ c κs. search needs)
+    (search needs)
+    (search needs)
     returns
     returns-2)

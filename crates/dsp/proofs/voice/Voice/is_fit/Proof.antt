@@ -15,4 +15,4 @@ returns c =
     (λ i. chained own && c .before .is-fit .ensures i && c .is-fit2 .ensures i) ∙ three-is own (adsrRule (v .adsr)) (brrRule (v .brr))
 
 pub is-fit-spec : {M : Type 1} → statement M
-is-fit-spec = tie.close (tie.spec (λ c κs. search needs) (λ c κs. search needs) returns)
+is-fit-spec = tie.close (tie.spec (search needs) (search needs) returns)
