@@ -49,10 +49,4 @@ returns c =
 
 pub finished-spec : {M : Type 1} → statement M
 finished-spec =
-    tie.close
-    (tie.spec
-    (search needs)
-    (search needs)
-    scaled-output-requires
-    (search needs)
-    returns)
+    tie.close (tie.spec (search needs) (search needs) scaled-output-requires (search needs) returns)

@@ -16,10 +16,4 @@ unfolding noiseTick
 returns-2 c = let t = c .before .tick-due .ensures in rw (sym (t .1) ∙ c .if1 .left, ← t .0)
 
 pub advance-spec : {M : Type 1} → statement M
-advance-spec =
-    tie.close
-    (tie.spec
-    (λ c κs. search needs)
-    (search needs)
-    returns
-    returns-2)
+advance-spec = tie.close (tie.spec (λ c κs. search needs) (search needs) returns returns-2)

@@ -14,10 +14,4 @@ returns c v =
     c .before .decoded-at .ensures v ∙ (λ i. decodedAt (a .ram .now) (n i) (asSounding v (a .self) (a .samples .now)))
 
 pub next-block-spec : {M : Type 1} → statement M
-next-block-spec =
-    tie.close
-    (tie.spec
-    (search needs)
-    (search needs)
-    (search needs)
-    returns)
+next-block-spec = tie.close (tie.spec (search needs) (search needs) (search needs) returns)

@@ -23,11 +23,4 @@ unfolding resolved
 returns-2 c v = rw (ne-eqb _ _ (c .if1 .left))
 
 pub resolved-spec : {M : Type 1} → statement M
-resolved-spec =
-    tie.close
-    (tie.spec
-    (search needs)
-    (search needs)
-    (search needs)
-    returns
-    returns-2)
+resolved-spec = tie.close (tie.spec (search needs) (search needs) (search needs) returns returns-2)

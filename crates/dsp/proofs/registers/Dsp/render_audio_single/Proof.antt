@@ -28,11 +28,4 @@ returns-2 c = rw (← c .before .is-fit .ensures, c .if1 .left)
 
 pub render-audio-single-spec : {M : Type 1} → statement M
 render-audio-single-spec =
-    tie.close
-    (tie.spec
-    (search needs)
-    (search needs)
-    dry-requires
-    (search needs)
-    returns
-    returns-2)
+    tie.close (tie.spec (search needs) (search needs) dry-requires (search needs) returns returns-2)

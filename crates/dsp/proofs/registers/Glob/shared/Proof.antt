@@ -25,10 +25,4 @@ returns c bytes ek ed en =
     }
 
 pub shared-spec : {M : Type 1} → statement M
-shared-spec =
-    tie.close
-    (tie.spec
-    (search needs)
-    (search needs)
-    (search needs)
-    returns)
+shared-spec = tie.close (tie.spec (search needs) (search needs) (search needs) returns)
