@@ -11,7 +11,6 @@ pub mod Writes
 pub mod Tests
 pub mod Fits
 pub mod Lanes
-pub mod Taking
 pub mod Moves
 pub mod Ticks
 pub mod Drives

@@ -8,7 +8,8 @@ use mir.Syntax.{w16}
 use mir.ValLaws.{toZ-ofZ}
 use Rattle.dsp.specs.Lane.{Waiting, waitedOf, cellAfter, cellOf, ownCell}
 use Rattle.dsp.specs.Inside.{asShared}
-use Rattle.dsp.proofs.Lanes.{fit-kept-waited}
+use Rattle.dsp.proofs.Moves.{waited-keeps}
+use Rattle.dsp.proofs.Lanes.{fits}
 use Rattle.dsp.proofs.lane.own_cell.Statement.{statement}
 use Rattle.dsp.proofs.lane.own_cell.Tie as tie
 
@@ -18,7 +19,7 @@ low c =
     let s = c .before .before .before .before .before .before .before .before .before .before .before in
     let e = c .stepped .ensures in
     subst (λ (w : Waiting). w .sounding .voice .adsr .«envelope_level» ≤ 0x800) {x = e 1} {y = e 0} (sym {a = e 0} {b = e 1} e)
-    (fit-kept-waited _ _ _ _ _ _ _ _ _ (s .pre .5) (s .pre .6) .voice .1 .1 .0)
+    (waited-keeps fits _ _ _ _ _ _ _ _ _ (s .pre .5) .1 .1 .0)
 
 returns : tie.Need-returns
 unfolding ownCell cellOf

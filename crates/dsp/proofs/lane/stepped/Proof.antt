@@ -11,7 +11,8 @@ use Rattle.dsp.specs.Lane.{sourceOf, waited, waitedOf}
 use Rattle.dsp.specs.Inside.{asAdsr, asVoice, asSounding, asShared}
 use Rattle.dsp.specs.declared.adsr.Settings.{Settings}
 use Rattle.dsp.proofs.Fits.{adsr-fit, brr-fit}
-use Rattle.dsp.proofs.Lanes.{polled-fit}
+use Rattle.dsp.proofs.Moves.{polled-keeps}
+use Rattle.dsp.proofs.Lanes.{fits}
 use Rattle.dsp.proofs.lane.stepped.Statement.{statement}
 use Rattle.dsp.proofs.lane.stepped.Tie as tie
 
@@ -20,7 +21,7 @@ still-fit : (c : tie.After-polled) → FitVoice (asVoice (c .before .before .bef
 still-fit c =
     let a = c .before .before .before .args in
     let e = c .polled .ensures in
-    subst (λ (s : Sounding). FitVoice (s .voice)) {x = e 1} (sym {b = e 1} e) (polled-fit (asShared (a .c)) (a .j) (a .v) (a .endx) (c .before .before .before .pre .6))
+    subst (λ (s : Sounding). FitVoice (s .voice)) {x = e 1} (sym {b = e 1} e) (polled-keeps fits (asShared (a .c)) (a .j) (a .v) (a .endx) (c .before .before .before .pre .6))
 
 waited-requires : tie.Need-waited-requires
 waited-requires c κs =

@@ -12,7 +12,8 @@ use Rattle.dsp.specs.declared.adsr.Adsr.{Adsr}
 use Rattle.dsp.specs.declared.adsr.Settings.{Settings}
 use Rattle.dsp.specs.declared.voice.Voice.{Voice}
 use Rattle.dsp.proofs.Envelopes.{fit-kept-envelope}
-use Rattle.dsp.proofs.Plays.{Ready, resolved-ready, Low, low-played, pitched, rests, plays}
+use Rattle.dsp.proofs.Moves.{resolved-keeps, played-keeps}
+use Rattle.dsp.proofs.Plays.{Ready, ready, Low, low, pitched, rests, plays}
 use Rattle.dsp.proofs.play.Play.step.Statement.{statement}
 use Rattle.dsp.proofs.play.Play.step.Tie as tie
 
@@ -30,17 +31,17 @@ ticked c v e =
     (subst (λ (s : Settings). asAdsr s (c .update-envelope .result) ≡ envelopeTick (asAdsr s (c .before .before .before .before .args .self .envelope))) (sym e) (c .update-envelope .ensures))
 
 -- its level
-low : (c : tie.After-update-envelope) → c .update-envelope .result .level ≤ 0x800
-low c =
+level-low : (c : tie.After-update-envelope) → c .update-envelope .result .level ≤ 0x800
+level-low c =
     let e = c .update-envelope .ensures in
     subst (λ (a : Adsr). a .«envelope_level» ≤ 0x800) {x = e 1} (sym {b = e 1} e) (fit-kept-envelope _ (c .before .before .before .before .pre .4) .0)
 
 -- the block after the resolve
-after-resolve : (c : tie.After-resolved) → Ready (c .resolved .ensures noVoice 0)
+after-resolve : (c : tie.After-resolved) → Ready (c .resolved .ensures noVoice 0 .voice .brr)
 after-resolve c =
     let s = c .before .before .before .before .before .before .before .before in
     let e = c .resolved .ensures noVoice in
-    subst Ready {x = e 1} (sym {b = e 1} e) (resolved-ready _ _ (record { sized = s .pre .3; block = s .pre .5 }))
+    subst (λ (s : Sounding). Ready (s .voice .brr)) {x = e 1} (sym {b = e 1} e) (resolved-keeps ready _ _ (record { sized = s .pre .3; block = s .pre .5 }))
 
 -- and after the samples
 small : (c : tie.After-interpolated) → c .interpolated .result .envelope .level ≤ 0x800
@@ -52,7 +53,7 @@ small c =
     let e = _∙_ {b = d 1} d (ap (advanced (a .ram .now) (a .dir) (a .srcn) (asSource (a .source))) (c .before .before .before .before .before .resolved .ensures v)) in
     let i = c .interpolated .ensures v [] in
     let LowIn : Sounding → Type 0 = λ (s : Sounding). Low (s .voice) in
-    let k = subst LowIn {x = e 1} (sym {b = e 1} e) (low-played _ _ _ _ _ (low (c .before .before .before .before .before .before .before .before .before))) in
+    let k = subst LowIn {x = e 1} (sym {b = e 1} e) (played-keeps low _ _ _ _ _ (level-low (c .before .before .before .before .before .before .before .before .before))) in
     subst LowIn {x = i 1} (sym {b = i 1} i) k
 
 returns : tie.Need-returns
