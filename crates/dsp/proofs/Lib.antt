@@ -1,5 +1,4 @@
 pub mod Rules
-pub mod Clocks
 pub mod Blocks
 pub mod Envelopes
 pub mod Pitch
