@@ -20,23 +20,27 @@ same-length c = c .before .before .before .before .before .before .before .befor
 
 returns : tie.Need-returns
 unfolding turned
-returns c = let s = c .before .before .before .before .before .before .before .before .before .before .before .before .before .before .before .before .before .before .before .before .before .before .before .before in
+returns c =
+    let slot = c .before .before .before .before .before .before .before .before in
+    let bytes = slot .before .before .before .before .before in
+    let cell = bytes .before .before .before in
+    let s = cell .before .before .before .before .before .before .before .before in
     let a = s .args in
+    let x = cell .cell .result in
     let eon = rw (mod-eq-of-lt (s .pre .4)) at (c .before .before .before .before .bit .ensures) in
-    let x = c .before .before .before .before .before .before .before .before .before .before .before .before .before .before .before .before .cell .result in
-    let o = landed w16 {z = x .out} (c .before .before .before .before .before .before .before .before .before .before .before .before .before .before .struct-told2 .given .1 .1 .0 .1) in
+    let o = landed w16 {z = x .out} (bytes .before .struct-told2 .given .1 .1 .0 .1) in
     let l = landed w8 {z = x .voice .«left_vol»} (c .before .before .struct-told5 .given .0 .1) in
     let r = landed w8 {z = x .voice .«right_vol»} (c .before .struct-told6 .given .1 .0 .1) in
-    let e = landed w16 {z = a .acc .prev} (c .before .before .before .before .before .before .before .before .before .before .before .before .before .before .before .before .before .struct-told .given .0 .1) in
+    let e = landed w16 {z = a .acc .prev} (cell .before .struct-told .given .0 .1) in
     (λ i. record {
       voice = x .voice;
       delay = x .delay;
       sums = (c .added .ensures ∙ (λ k. added (eon k) (o k) (l k) (r k) (asSums (a .acc)))) i;
-      bytes = (c .before .before .before .before .before .before .before .before .before .before .before .before .before .put-bytes .ensures ∙ (λ k. putBytes (a .j) (x .envx) (o k) (x .endx) (a .bytes .now))) i;
-      slot = (c .before .before .before .before .before .before .before .before .put-slot .ensures ∙ (λ k. if a .worked then laneBytes (o k) (x .envx) (x .endx) else a .slot .now)) i;
+      bytes = (bytes .put-bytes .ensures ∙ (λ k. putBytes (a .j) (x .envx) (o k) (x .endx) (a .bytes .now))) i;
+      slot = (slot .put-slot .ensures ∙ (λ k. if a .worked then laneBytes (o k) (x .envx) (x .endx) else a .slot .now)) i;
     })
     ∙ ap (lanes.landed (a .worked) (asShared (a .c)) (a .j) (asSums (a .acc)) (a .bytes .now) (a .slot .now))
-    (c .before .before .before .before .before .before .before .before .before .before .before .before .before .before .before .before .cell .ensures ∙ (λ k. if a .worked then ownCell (asShared (a .c)) (a .ram .now) (a .j) (e k) (a .v) (a .delay) (a .bytes .now) else shownCell (a .slot .now) (a .v) (a .delay)))
+    (cell .cell .ensures ∙ (λ k. if a .worked then ownCell (asShared (a .c)) (a .ram .now) (a .j) (e k) (a .v) (a .delay) (a .bytes .now) else shownCell (a .slot .now) (a .v) (a .delay)))
 
 pub lane-spec : {M : Type 1} → statement M
 lane-spec =

@@ -47,32 +47,37 @@ after-resolve c =
 small : (c : tie.After-interpolated) → c .interpolated .result .envelope .level ≤ 0x800
 unfolding interpolated
 small c =
-    let a = c .before .before .before .before .before .before .before .before .before .before .before .before .before .args in
+    let r = c .before .before .before .before .before in
+    let envelope = r .before .before .before .before in
+    let a = envelope .before .before .before .before .args in
     let v = pitched (a .pitch) in
     let d = c .before .before .advanced .ensures v refl in
-    let e = _∙_ {b = d 1} d (ap (advanced (a .ram .now) (a .dir) (a .srcn) (asSource (a .source))) (c .before .before .before .before .before .resolved .ensures v)) in
+    let e = _∙_ {b = d 1} d (ap (advanced (a .ram .now) (a .dir) (a .srcn) (asSource (a .source))) (r .resolved .ensures v)) in
     let i = c .interpolated .ensures v [] in
     let LowIn : Sounding → Type 0 = λ (s : Sounding). Low (s .voice) in
-    let k = subst LowIn {x = e 1} (sym {b = e 1} e) (played-keeps low _ _ _ _ _ (level-low (c .before .before .before .before .before .before .before .before .before))) in
+    let k = subst LowIn {x = e 1} (sym {b = e 1} e) (played-keeps low _ _ _ _ _ (level-low envelope)) in
     subst LowIn {x = i 1} (sym {b = i 1} i) k
 
 returns : tie.Need-returns
 unfolding voiceStep
 returns c v p e =
-    let a = c .before .before .before .before .before .before .args in
-    rests _ _ _ _ _ _ (sym (c .before .is-idle .ensures v (a .samples .now)) ∙ c .if1 .taken) ∙ ticked (c .before .before) v e
+    let envelope = c .before .before in
+    rests _ _ _ _ _ _ (sym (c .before .is-idle .ensures v (envelope .before .before .before .before .args .samples .now)) ∙ c .if1 .taken) ∙ ticked envelope v e
 
 returns-2 : tie.Need-returns-2
 unfolding voiceStep interpolated
 returns-2 c v p e =
-    let a = c .before .before .before .before .before .before .before .before .before .before .before .before .before .before .before .args in
+    let r = c .before .before .before .before .before .before .before in
+    let idle = r .before .before in
+    let envelope = idle .before .before in
+    let a = envelope .before .before .before .before .args in
     let d = c .before .before .before .before .advanced .ensures v p in
     let i = c .before .before .interpolated .ensures v (d 0 .voice .brr .«sample_buffer») in
-    let q = _∙_ {b = d 1} d (ap (advanced (a .ram .now) (a .dir) (a .srcn) (asSource (a .source))) (c .before .before .before .before .before .before .before .resolved .ensures v)) in
+    let q = _∙_ {b = d 1} d (ap (advanced (a .ram .now) (a .dir) (a .srcn) (asSource (a .source))) (r .resolved .ensures v)) in
     (λ j. record { sounding = i j; envx = i j .voice .adsr .«envelope_level» / 16 })
     ∙ ap shown q
-    ∙ plays _ _ _ _ _ _ (sym (c .before .before .before .before .before .before .before .before .before .before .is-idle .ensures v (a .samples .now)) ∙ c .before .before .before .before .before .before .before .before .before .if1 .left)
-    ∙ ticked (c .before .before .before .before .before .before .before .before .before .before .before) v e
+    ∙ plays _ _ _ _ _ _ (sym (idle .before .is-idle .ensures v (a .samples .now)) ∙ idle .if1 .left)
+    ∙ ticked envelope v e
 
 pub step-spec : {M : Type 1} → statement M
 step-spec =
