@@ -1,14 +1,12 @@
 -- The callees; the poll keeps the voice fit.
 use borrow.Author.Needs.{needs}
 use native.Mathlib.Nat.{mod-eq-of-lt}
-use mathlib.Core.Path.{_∙_, refl, sym, ap, subst}
-use mir.Syntax.{w16}
-use mir.ValLaws.{toZ-ofZ}
+use mathlib.Core.Path.{refl, sym, subst}
+use mir.Facts.{toZ-ofZ}
 use Rattle.dsp.specs.Fit.{FitAdsr, FitVoice}
-use Rattle.dsp.specs.Keys.{polledDelay}
 use Rattle.dsp.specs.Voice.{Sounding}
-use Rattle.dsp.specs.Lane.{sourceOf, waited, waitedOf}
-use Rattle.dsp.specs.Inside.{asAdsr, asVoice, asSounding, asShared}
+use Rattle.dsp.specs.Lane.{waitedOf}
+use Rattle.dsp.specs.Inside.{asAdsr, asVoice, asShared}
 use Rattle.dsp.specs.declared.adsr.Settings.{Settings}
 use Rattle.dsp.proofs.Fits.{adsr-fit, brr-fit}
 use Rattle.dsp.proofs.Moves.{polled-keeps}
@@ -34,14 +32,11 @@ waited-requires c κs =
 returns : tie.Need-returns
 unfolding waitedOf
 returns c =
-    let s = c .before .before .before .before .before .before .before .before .before .before in
-    let a = s .args in
+    let polled = c .before .before .before .before .before .before .before in
+    let s = polled .before .before .before in
     let kon = rw (mod-eq-of-lt (s .pre .5)) at (c .before .before .before .before .before .before .bit .ensures) in
-    let d = c .before .before .before .before .before .delay-of .ensures ∙ (λ i. polledDelay (kon i) (a .delay)) in
-    let x = c .before .before .before .source-of .ensures ∙ ap (sourceOf (a .c .pmon) (a .j)) (toZ-ofZ w16 (a .prev) (s .fits .prev)) in
-    let p = (λ i. asSounding (a .v) (c .before .before .before .before .before .before .before .polled .result) (s .pre .3 i)) ∙ c .before .before .before .before .before .before .before .polled .ensures in
-    let n = c .before .waited .ensures (a .v) refl (sym (c .before .before .before .before .settings .ensures)) in
-    _∙_ {a = n 0} {b = n 1} n (λ i. waited (a .ram .now) (a .c .dir) (a .srcn) (x i) (a .envx) (d i) (p i))
+    rw (← toZ-ofZ (s .fits .prev), ← c .before .before .before .source-of .ensures, ← kon, ← c .before .before .before .before .before .delay-of .ensures, ← polled .polled .ensures, ← s .pre .3)
+    (c .before .waited .ensures (s .args .v) refl (sym (c .before .before .before .before .settings .ensures)))
 
 pub stepped-spec : {M : Type 1} → statement M
 stepped-spec =

@@ -22,8 +22,7 @@ returns c = let e = c .before .before .before .before .before .before .before .b
 
 returns-2 : tie.Need-returns-2
 unfolding echoLane
-returns-2 c = let a = c .before .before .before .before .before .args in
-    rw (c .before .before .if1 .left) (λ i. record { echo = record { globals = c .echo-from .ensures i; left = a .left; right = a .right; ram = a .ram .now }; slot = a .slot .now })
+returns-2 c = rw (c .before .before .if1 .left, c .echo-from .ensures)
 
 pub echo-lane-spec : {M : Type 1} → statement M
 echo-lane-spec =
