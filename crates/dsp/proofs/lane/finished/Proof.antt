@@ -22,13 +22,14 @@ sample-small : (c : tie.After-struct-told2) → mag (c .before .before .noised .
 sample-small c = c .struct-told2 .given .1 .1 .1 .1 .1 .1 .1 .1 .1 .0 .1
 
 is-noised : (c : tie.After-noised)
-    → _≡_ {A = Sounding} (asSounding (c .before .before .before .before .args .v) (c .noised .result) (c .before .before .before .before .args .samples)) (record { voice = noised (bit (c .before .before .before .before .args .c .non) (c .before .before .before .before .args .j)) (c .before .before .before .before .args .c .noise) (asVoice (c .before .before .before .before .args .v) (c .before .before .before .before .args .h .play) (c .before .before .before .before .args .samples)); endx = c .before .before .before .before .args .h .play .endx })
+    → let a = c .before .before .before .before .args in
+    _≡_ {A = Sounding} (asSounding (a .v) (c .noised .result) (a .samples))
+    (record { voice = noised (bit (a .c .non) (a .j)) (a .c .noise) (asVoice (a .v) (a .h .play) (a .samples)); endx = a .h .play .endx })
 is-noised c =
     let s = c .before .before .before .before in
     let a = s .args in
     let non = rw (mod-eq-of-lt (s .pre .0)) at (c .before .before .bit .ensures) in
-    c .noised .ensures (a .v) (a .samples)
-    ∙ (λ i. record { voice = noised (non i) (landed w16 {z = a .c .noise} (noise-small (c .before)) i) (asVoice (a .v) (a .h .play) (a .samples)); endx = a .h .play .endx })
+    rw (← non, ← landed w16 {z = a .c .noise} (noise-small (c .before))) (c .noised .ensures (a .v) (a .samples))
 
 scaled-output-requires : tie.Need-scaled-output-requires
 unfolding noised
