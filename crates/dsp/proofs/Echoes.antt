@@ -1,7 +1,7 @@
 -- Laws of the echo: what bounds a fit pointer, what one side's calls give, and that a tick keeps the echo's numbers fit.
 use mathlib.Core.List.{List}
 use mathlib.Core.Logic.{_⊎_, inl, inr, ⊎-elim}
-use mathlib.Core.Path.{_≡_, refl, _∙_, ap}
+use mathlib.Core.Path.{_≡_, refl}
 use Prim.Native.Nat.{ℕ, _+_, _%_, _≤_, _<_}
 use native.Mathlib.Decide.{decLe}
 use native.Mathlib.Omega.{arith}
@@ -36,13 +36,9 @@ module _ (g : Globals) (ram : List ℕ) (taps : List ℤ) (k : ℕ) (history : L
       → z ≡ fedBack (toZ w16 (ofZ w16 input)) (toZ w16 (ofZ w16 y)) (toZ w8 (ofZ w8 (g .efb))) → Side h y z
   unfolding historyNow echoNow
   side-is x h y z hx hy hz hi he ex eh ey ez =
-      let m : h ≡ historyNow g ram k history = eh ∙ ap (λ (y : ℤ). movedOn history (y >> 1)) (landed w16 hx ∙ ex) in
-      let e : toZ w16 (ofZ w16 y) ≡ echoNow g ram k taps history = landed w16 hy ∙ ey ∙ ap (λ (l : List ℤ). firOf l taps) m in
-      record {
-        moved = m;
-        echo = e;
-        fed = landed w16 hz ∙ ez ∙ (λ i. fedBack (landed w16 {z = input} hi i) (e i) (landed w8 {z = g .efb} he i));
-      }
+      let m : h ≡ historyNow g ram k history = rw (eh, landed w16 hx, ex) in
+      let e : toZ w16 (ofZ w16 y) ≡ echoNow g ram k taps history = rw (landed w16 hy, ey, m) in
+      record { moved = m; echo = e; fed = rw (landed w16 hz, ez, e, landed w16 {z = input} hi, landed w8 {z = g .efb} he) }
 
 -- ---- kept fit
 

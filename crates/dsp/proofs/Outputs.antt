@@ -32,7 +32,7 @@ pub side-lands : (x dry master echo volume : ℤ) → mag x < 0x8000 → mag dry
     → x ≡ mastered (toZ w16 (ofZ w16 dry)) (toZ w8 (ofZ w8 master)) (toZ w16 (ofZ w16 echo)) (toZ w8 (ofZ w8 volume))
     → toZ w16 (ofZ w16 x) ≡ mastered dry master echo volume
 side-lands x dry master echo volume hx hd hm he hv p =
-    landed w16 hx ∙ p ∙ (λ i. mastered (landed w16 {z = dry} hd i) (landed w8 {z = master} hm i) (landed w16 {z = echo} he i) (landed w8 {z = volume} hv i))
+    rw (landed w16 hx, p, landed w16 {z = dry} hd, landed w8 {z = master} hm, landed w16 {z = echo} he, landed w8 {z = volume} hv)
 
 -- the sum of the first n voices of a list, and of all of them
 abbrev pub dryUpTo : List Voice → ℕ → Stereo
