@@ -16,7 +16,6 @@ use Rattle.dsp.specs.Envelope.{counted, timed, risen, settled, fallenTo,
 use Rattle.dsp.specs.declared.adsr.EnvelopePhase.{EnvelopePhase}
 use Rattle.dsp.specs.declared.adsr.EnvelopePhase.the-variants.{Attack, Decay, Sustain, Release, Off}
 use Rattle.dsp.specs.declared.adsr.Adsr.{Adsr}
-use Rattle.dsp.proofs.Fits.{target-most}
 
 -- ---- the clock
 
@@ -47,7 +46,6 @@ settled-fit : (target : ℕ) → target ≤ 0x800 → (a : Adsr) → FitAdsr a �
 unfolding settled
 settled-fit target t a h =
     let l = lowered-le (a .«envelope_level») in
-    let k = h .0 in
     chosen FitAdsr (lowered (a .«envelope_level») ≤? target) (t, (omega arith, h .1 .1)) (omega arith, h .1)
 
 fallen-fit : (l : ℕ) (a : Adsr) → l ≤ 0x800 → FitAdsr a → FitAdsr (fallenTo l a)
@@ -55,16 +53,13 @@ unfolding fallenTo
 fallen-fit l a k h = chosen FitAdsr (l =? 0) (omega arith, h .1) (k, h .1)
 
 faded-fit : (a : Adsr) → FitAdsr a → FitAdsr (faded a)
-faded-fit a h = let l = lowered-le (a .«envelope_level») in let k = h .0 in fallen-fit (lowered (a .«envelope_level»)) a (omega arith) h
-
-ramped-fit : (m : ℕ) (a : Adsr) → FitAdsr a → FitAdsr (ramped m a)
-ramped-fit m a h = (gained-le m (a .«envelope_level») (h .0), h .1)
+faded-fit a h = let l = lowered-le (a .«envelope_level») in fallen-fit (lowered (a .«envelope_level»)) a (omega arith) h
 
 gain-fit : (a : Adsr) → FitAdsr a → FitAdsr (gainTick a)
 unfolding gainTick
 gain-fit a h =
     let m = a .«gain_param» / 32 % 4 in
-    chosen FitAdsr (bit (a .«gain_param») 7) (timed-fit (a .«gain_param» % 32) (ramped m) a (ramped-fit m) h)
+    chosen FitAdsr (bit (a .«gain_param») 7) (timed-fit (a .«gain_param» % 32) (ramped m) a (λ b k. (gained-le m (b .«envelope_level») (k .0), k .1)) h)
     (omega arith, h .1)
 
 phase-fit : (p : EnvelopePhase) (a : Adsr) → FitAdsr a → FitAdsr (phaseTick p a)
@@ -72,10 +67,9 @@ unfolding phaseTick attackTick decayTick sustainTick releaseTick
 phase-fit Attack a h = chosen FitAdsr (a .«attack_rate» =? 15) (risen-fit 1024 a h) (timed-fit (2 * a .«attack_rate» + 1) (risen 32) a (risen-fit 32) h)
 phase-fit Decay a h =
     let target = (a .«sustain_level» + 1) * 0x100 in
-    let t = target-most a h in
     timed-fit (2 * a .«decay_rate» + 16) (settled target) a (settled-fit target (omega arith)) h
 phase-fit Sustain a h = timed-fit (a .«sustain_rate») faded a faded-fit h
-phase-fit Release a h = let l = h .0 in fallen-fit (a .«envelope_level» - 8) a (omega arith) h
+phase-fit Release a h = fallen-fit (a .«envelope_level» - 8) a (omega arith) h
 phase-fit Off a h = h
 
 pub fit-kept-envelope : (a : Adsr) → FitAdsr a → FitAdsr (envelopeTick a)

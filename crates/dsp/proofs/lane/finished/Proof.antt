@@ -1,14 +1,14 @@
 -- The callees, with the read-backs removed.
 use borrow.Author.Needs.{needs}
 use native.Mathlib.Nat.{mod-eq-of-lt}
-use mathlib.Core.Path.{_≡_, _∙_, sym, ap, subst}
+use mathlib.Core.Path.{_≡_, sym, ap, subst}
 use Prim.Native.Nat.{_<_, _≤_}
 use lib.Signed.{mag}
 use mir.Syntax.{w16}
 use Rattle.numbers.proofs.Range.{landed}
 use Rattle.numbers.specs.Bits.{bit}
 use Rattle.dsp.specs.Voice.{Sounding}
-use Rattle.dsp.specs.Mix.{scaledOutput, outputOf}
+use Rattle.dsp.specs.Mix.{outputOf}
 use Rattle.dsp.specs.Lane.{noised, Cell, cellAfter}
 use Rattle.dsp.specs.Inside.{asVoice, asSounding}
 use Rattle.dsp.proofs.lane.finished.Statement.{statement}
@@ -41,12 +41,11 @@ scaled-output-requires c κs =
 returns : tie.Need-returns
 unfolding cellAfter
 returns c =
-    let a = c .before .before .before .before .before .before .before .before .args in
-    let n = c .before .before .before .before .noised .result in
-    let e = landed w16 {z = n .«current_sample»} (sample-small (c .before .before)) in
-    let o = landed w16 (c .before .scaled-output .ok) ∙ c .before .scaled-output .ensures ∙ ap (scaledOutput (n .envelope .phase) (n .envelope .level)) e in
-    let F : Sounding → Cell = λ (s : Sounding). record { voice = s .voice; delay = a .h .delay; out = outputOf (s .voice); envx = a .h .envx; endx = s .endx } in
-    (λ i. record { voice = c .with-play .ensures i; delay = a .h .delay; out = o i; envx = a .h .envx; endx = n .endx }) ∙ ap F (is-noised (c .before .before .before .before))
+    let noised = c .before .before .before .before in
+    let h = noised .before .before .before .before .args .h in
+    let e = landed w16 {z = noised .noised .result .«current_sample»} (sample-small (c .before .before)) in
+    let F : Sounding → Cell = λ (s : Sounding). record { voice = s .voice; delay = h .delay; out = outputOf (s .voice); envx = h .envx; endx = s .endx } in
+    rw (c .with-play .ensures, landed w16 (c .before .scaled-output .ok), c .before .scaled-output .ensures, e) (ap F (is-noised noised))
 
 pub finished-spec : {M : Type 1} → statement M
 finished-spec =
