@@ -19,7 +19,7 @@ use Rattle.sound.specs.Sound.{fedBack, firOf}
 use Rattle.dsp.specs.Machine.{Globals}
 use Rattle.dsp.specs.Fit.{FitGlobals}
 use Rattle.dsp.specs.Echo.{echoRead, lengthNow, pointerNext, echoMoved, historyNow, echoNow}
-use Rattle.dsp.proofs.Fits.{delay-most, pmon-even, length-pages, length-most, pointer-pairs, pointer-within}
+use Rattle.dsp.proofs.Fits.{most-of, delay-most, pmon-even, length-pages, length-most, pointer-pairs, pointer-within}
 
 pub pointer-low : (g : Globals) → FitGlobals g → g .«echo_ptr» ≤ 30720
 pointer-low g f = ⊎-elim (λ e. omega arith) (λ l. omega (arith, length-most g f)) (pointer-within g f)
@@ -48,7 +48,7 @@ now-pages g f = chosen (λ (n : ℕ). n % 2048 ≡ 0) (g .«echo_ptr» =? 0) (om
 
 now-most : (g : Globals) → FitGlobals g → lengthNow g ≤ 30720
 unfolding lengthNow
-now-most g f = chosen (λ (n : ℕ). n ≤ 30720) (g .«echo_ptr» =? 0) (omega (arith, delay-most g f)) (length-most g f)
+now-most g f = most-of 30720 (g .«echo_ptr» =? 0) (omega (arith, delay-most g f)) (length-most g f)
 
 next-pairs : (g : Globals) → FitGlobals g → pointerNext g % 4 ≡ 0
 unfolding pointerNext

@@ -16,6 +16,7 @@ use Rattle.dsp.specs.Envelope.{counted, timed, risen, settled, fallenTo,
 use Rattle.dsp.specs.declared.adsr.EnvelopePhase.{EnvelopePhase}
 use Rattle.dsp.specs.declared.adsr.EnvelopePhase.the-variants.{Attack, Decay, Sustain, Release, Off}
 use Rattle.dsp.specs.declared.adsr.Adsr.{Adsr}
+use Rattle.dsp.proofs.Fits.{most-of}
 
 -- ---- the clock
 
@@ -81,4 +82,4 @@ fit-kept-envelope a h = chosen FitAdsr (gains a) (gain-fit a h) (phase-fit (a .�
 pub fit-kept-noise : (flg : ℕ) (n : Noise) → n .lfsr ≤ 0x7FFF → n .counter ≤ 2047 → (noiseTick flg n .lfsr ≤ 0x7FFF) × (noiseTick flg n .counter ≤ 2047)
 unfolding noiseTick
 fit-kept-noise flg n l c =
-    (chosen (λ (r : ℕ). r ≤ 0x7FFF) (fires (n .counter) (flg % 32)) (shifted-le (n .lfsr) l) l, counter-kept (n .counter) (flg % 32) c)
+    (most-of 0x7FFF (fires (n .counter) (flg % 32)) (shifted-le (n .lfsr) l) l, counter-kept (n .counter) (flg % 32) c)

@@ -6,7 +6,7 @@ use mathlib.Core.Path.{_≡_, refl}
 use Prim.Native.Nat.{ℕ, _/_, _%_, _≤_, _<_}
 use native.Mathlib.Omega.{arith}
 use lib.ListN.{getD, set}
-use Rattle.numbers.specs.Choice.{_<?_, _=?_}
+use Rattle.numbers.specs.Choice.{if_then_else_, _<?_, _=?_}
 use Rattle.numbers.specs.Listed.{all}
 use Rattle.numbers.proofs.Choice.{chosen}
 use Rattle.numbers.proofs.Turns.{set-keeps}
@@ -133,40 +133,25 @@ new-fit = refl
 
 -- ---- a register write
 
+-- whichever is taken
+pub most-of : (m : ℕ) (b : Bool) {x y : ℕ} → x ≤ m → y ≤ m → (if b then x else y) ≤ m
+most-of m b = chosen (λ (n : ℕ). n ≤ m) b
+
 write-fit : (i x : ℕ) (v : Voice) → x < 256 → FitVoice v → FitVoice (writeVoice i x v)
 write-fit i x v l h =
+    let b = v .adsr in
     let a = adsr-fit v h in
-    voice-fit (writeVoice i x v)
-    (chosen (λ (n : ℕ). n ≤ 0x3FFF) (i =? 2) (omega arith) (chosen (λ (n : ℕ). n ≤ 0x3FFF) (i =? 3) (omega arith) (h .0)))
-    (h .1 .0) (
-      a .0,
-      (
-        a .1 .0,
-        (
-          chosen (λ (n : ℕ). n ≤ 15) (i =? 5) (omega arith) (attack-most (v .adsr) a),
-          (
-            chosen (λ (n : ℕ). n ≤ 7) (i =? 5) (omega arith) (decay-most (v .adsr) a),
-            (
-              chosen (λ (n : ℕ). n ≤ 7) (i =? 6) (omega arith) (target-most (v .adsr) a),
-              (chosen (λ (n : ℕ). n ≤ 31) (i =? 6) (omega arith) (sustain-most (v .adsr) a), tt),
-            ),
-          ),
-        ),
-      ),
-    )
-    (brr-fit v h)
+    let w = writeVoice i x v in
+    let attack : w .adsr .«attack_rate» ≤ 15 = most-of 15 (i =? 5) (omega arith) (attack-most b a) in
+    let decay : w .adsr .«decay_rate» ≤ 7 = most-of 7 (i =? 5) (omega arith) (decay-most b a) in
+    let target : w .adsr .«sustain_level» ≤ 7 = most-of 7 (i =? 6) (omega arith) (target-most b a) in
+    let sustain : w .adsr .«sustain_rate» ≤ 31 = most-of 31 (i =? 6) (omega arith) (sustain-most b a) in
+    voice-fit w (most-of 0x3FFF (i =? 2) (omega arith) (most-of 0x3FFF (i =? 3) (omega arith) (h .0))) (h .1 .0) (omega arith) (brr-fit v h)
 
 globals-write-fit : (i x : ℕ) (g : Globals) → FitGlobals g → FitGlobals (globalsAfter i x g)
-globals-write-fit i x g h = (
-  h .0,
-  (
-    h .1 .0,
-    (
-      chosen (λ (n : ℕ). n ≤ 15) (i =? 0x7D) (omega arith) (delay-most g h),
-      (chosen (λ (n : ℕ). n % 2 ≡ 0) (i =? 0x2D) (omega arith) (pmon-even g h), h .1 .1 .1 .1),
-    ),
-  ),
-)
+globals-write-fit i x g h =
+    let even : globalsAfter i x g .pmon % 2 ≡ 0 = chosen (λ (n : ℕ). n % 2 ≡ 0) (i =? 0x2D) (omega arith) (pmon-even g h) in
+    (h .0, (h .1 .0, (most-of 15 (i =? 0x7D) (omega arith) (delay-most g h), (even, h .1 .1 .1 .1))))
 
 abbrev pub AllFit : List Voice → Type 0
 AllFit vs = (n : ℕ) → FitVoice (getD vs n noVoice)

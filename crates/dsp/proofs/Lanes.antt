@@ -17,7 +17,7 @@ use Rattle.dsp.specs.Keys.{keyedOn, polledDelay}
 use Rattle.dsp.specs.Voice.{blockOf, pushed, interpolated}
 use Rattle.dsp.specs.Lane.{Shared, Waiting, waited, waitedOf, noised, Cell, cellAfter, cellOf, ownCell, shownCell}
 use Rattle.dsp.specs.declared.voice.Voice.{Voice}
-use Rattle.dsp.proofs.Fits.{voice-fit, adsr-fit, brr-fit, silenced-fit}
+use Rattle.dsp.proofs.Fits.{most-of, voice-fit, adsr-fit, brr-fit, silenced-fit}
 use Rattle.dsp.proofs.Envelopes.{fit-kept-envelope}
 use Rattle.dsp.proofs.Moves.{Ticked, waited-keeps}
 use Rattle.dsp.proofs.Plays.{next-fit}
@@ -48,7 +48,7 @@ pub fit-kept-either : (worked : Bool) (c : Shared) (ram : List ℕ) (j : ℕ) (p
     → FitCell (if worked then ownCell c ram j prev v delay bytes else shownCell slot v delay)
 unfolding ownCell cellOf cellAfter noised waitedOf waited shownCell
 fit-kept-either worked c ram j prev v delay bytes slot h d =
-    let n : polledDelay (bit (c .kon) j) delay ≤ 5 = chosen (λ (n : ℕ). n ≤ 5) (bit (c .kon) j) (omega arith) d in
+    let n : polledDelay (bit (c .kon) j) delay ≤ 5 = most-of 5 (bit (c .kon) j) (omega arith) d in
     chosen FitCell worked
     (record {
       voice = waited-keeps fits c j ram prev v delay _ _ _ h;

@@ -9,7 +9,6 @@ use Rattle.dsp.specs.Envelope.{envelopeTick}
 use Rattle.dsp.specs.Voice.{Sounding, advanced, interpolated, Stepped, shown, sounded, voiceStep}
 use Rattle.dsp.specs.Inside.{settingsOf, asAdsr, asVoice, asSource}
 use Rattle.dsp.specs.declared.adsr.Adsr.{Adsr}
-use Rattle.dsp.specs.declared.adsr.Settings.{Settings}
 use Rattle.dsp.specs.declared.voice.Voice.{Voice}
 use Rattle.dsp.proofs.Envelopes.{fit-kept-envelope}
 use Rattle.dsp.proofs.Moves.{resolved-keeps, played-keeps}
@@ -24,11 +23,11 @@ onward c v f =
     sounded (a .ram .now) (a .dir) (a .srcn) (asSource (a .source)) (a .envx) (record { voice = withEnvelope (asVoice v (a .self) (a .samples .now)) f; endx = a .self .endx })
 
 -- the envelope of a voice with these settings
-ticked : (c : tie.After-update-envelope) (v : Voice) → settingsOf (v .adsr) ≡ c .before .before .before .before .args .s
-    → onward c v (asAdsr (settingsOf (v .adsr)) (c .update-envelope .result)) ≡ onward c v (envelopeTick (asAdsr (settingsOf (v .adsr)) (c .before .before .before .before .args .self .envelope)))
-ticked c v e =
-    ap (onward c v)
-    (subst (λ (s : Settings). asAdsr s (c .update-envelope .result) ≡ envelopeTick (asAdsr s (c .before .before .before .before .args .self .envelope))) (sym e) (c .update-envelope .ensures))
+ticked : (c : tie.After-update-envelope) (v : Voice)
+    → let a = c .before .before .before .before .args in
+    let s = settingsOf (v .adsr) in
+    s ≡ a .s → onward c v (asAdsr s (c .update-envelope .result)) ≡ onward c v (envelopeTick (asAdsr s (a .self .envelope)))
+ticked c v e = ap (onward c v) (rw e (c .update-envelope .ensures))
 
 -- its level
 level-low : (c : tie.After-update-envelope) → c .update-envelope .result .level ≤ 0x800
