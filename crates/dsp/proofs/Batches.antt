@@ -1,10 +1,10 @@
 -- Ticks in one go and ticks behind others: a batch sees only its own rows of the sheet that was found. And what the entries for a
 -- run do where they refuse nothing.
 use mathlib.Core.List.{List, _++_, append-assoc, append-nil}
-use mathlib.Core.Path.{_≡_, refl, ap, _∙_}
+use mathlib.Core.Path.{_≡_, refl}
 use Prim.Native.Nat.{ℕ, zero, suc, _+_, _-_, _*_, _%_, _≤_, _<_}
 use native.Mathlib.Omega.{arith}
-use lib.ListN.{take, drop, length, length-drop, drop-of-length-le}
+use lib.ListN.{drop, length, length-drop, drop-of-length-le}
 use lib.Seq.{take-append-le, drop-append-le}
 use borrow.Author.Tests.{eq-eqb}
 use Rattle.dsp.specs.Machine.{Parts}
@@ -23,7 +23,7 @@ use Rattle.dsp.proofs.Fits.{facts-fit}
 pub lane-part : (j : ℕ) (old rest : List ℕ) → j * 4 + 4 ≤ length old → laneAt j (old ++ rest) ≡ laneAt j old
 lane-part j old rest h =
     let d = length-drop (j * 4) old in
-    ap (take 4) (drop-append-le (j * 4) old rest (omega arith)) ∙ take-append-le 4 (drop (j * 4) old) rest (omega (arith, d, h))
+    rw (drop-append-le (j * 4) old rest (omega arith)) (take-append-le 4 (drop (j * 4) old) rest (omega arith))
 
 -- a tick sees 36 bytes of it
 tick-part : (w : Work) (old rest : List ℕ) (p : Parts) (ram : List ℕ) → 36 ≤ length old → tickOf w (old ++ rest) p ram ≡ tickOf w old p ram
@@ -38,7 +38,7 @@ tick-part w old rest p ram h =
 old-left : (w : Work) (n : ℕ) (b : Bench) → length (ticksOf w n b .old) ≡ length (b .old) - n * 36
 unfolding ticksOf benchTick
 old-left w zero b = omega arith
-old-left w (suc n) b = length-drop 36 (ticksOf w n b .old) ∙ (let e = old-left w n b in omega (arith, e))
+old-left w (suc n) b = simp length-drop (omega (arith, old-left w n b))
 
 -- a bench that has put out samples and rows before, and finds more behind
 abbrev pub behind : List ℕ → List ℕ → List ℕ → Bench → Bench
