@@ -45,7 +45,7 @@ module _ (ram : List ℕ) (a : ℕ) (p1 p2 : ℤ) where
       → s ≡ sampleOf (byteAt ram a) (nibbleAt ram a k) n1 n2 → UpTo (suc k) (set samples k s) s n1
   unfolding newest listed
   one-more k samples n1 n2 s l u e =
-      let l′ : k < length samples = omega (arith, u .sized) in
+      let l′ : k < length samples = omega arith in
       let d : s ≡ sample k = rw (e, u .first, u .second) in
       record { sized = simp length-set (u .sized); front = rw (take-suc-set samples k s l′, u .front, d); first = d; second = u .first }
 
@@ -79,4 +79,4 @@ module _ (ram : List ℕ) (a : ℕ) (p1 p2 : ℤ) where
   unfolding decodeBlock
   whole k samples n1 n2 header e eh u =
       let z : a + 0 ≡ a = omega arith in
-      rw (eh, z, u .first, u .second, ← take-all k samples (omega (arith, u .sized)), u .front, e)
+      rw (eh, z, u .first, u .second, ← take-all k samples (omega arith), u .front, e)

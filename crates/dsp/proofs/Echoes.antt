@@ -19,10 +19,10 @@ use Rattle.sound.specs.Sound.{fedBack, firOf}
 use Rattle.dsp.specs.Machine.{Globals}
 use Rattle.dsp.specs.Fit.{FitGlobals}
 use Rattle.dsp.specs.Echo.{echoRead, lengthNow, pointerNext, echoMoved, historyNow, echoNow}
-use Rattle.dsp.proofs.Fits.{most-of, delay-most, pmon-even, length-pages, length-most, pointer-pairs, pointer-within}
+use Rattle.dsp.proofs.Fits.{most-of, pointer-within}
 
 pub pointer-low : (g : Globals) → FitGlobals g → g .«echo_ptr» ≤ 30720
-pointer-low g f = ⊎-elim (λ e. omega arith) (λ l. omega (arith, length-most g f)) (pointer-within g f)
+pointer-low g f = ⊎-elim (λ e. omega arith) (λ l. omega arith) (pointer-within g f)
 
 -- ---- one side: its history h, its output y and what it feeds back, z, which the machine reads from their bits
 module _ (g : Globals) (ram : List ℕ) (taps : List ℤ) (k : ℕ) (history : List ℤ) (input : ℤ) where
@@ -44,15 +44,15 @@ module _ (g : Globals) (ram : List ℕ) (taps : List ℤ) (k : ℕ) (history : L
 
 now-pages : (g : Globals) → FitGlobals g → lengthNow g % 2048 ≡ 0
 unfolding lengthNow
-now-pages g f = chosen (λ (n : ℕ). n % 2048 ≡ 0) (g .«echo_ptr» =? 0) (omega arith) (length-pages g f)
+now-pages g f = chosen (λ (n : ℕ). n % 2048 ≡ 0) (g .«echo_ptr» =? 0) (omega arith) (omega arith)
 
 now-most : (g : Globals) → FitGlobals g → lengthNow g ≤ 30720
 unfolding lengthNow
-now-most g f = most-of 30720 (g .«echo_ptr» =? 0) (omega (arith, delay-most g f)) (length-most g f)
+now-most g f = most-of 30720 (g .«echo_ptr» =? 0) (omega arith) (omega arith)
 
 next-pairs : (g : Globals) → FitGlobals g → pointerNext g % 4 ≡ 0
 unfolding pointerNext
-next-pairs g f = chosen (λ (n : ℕ). n % 4 ≡ 0) (lengthNow g ≤? g .«echo_ptr» + 4) (omega arith) (omega (arith, pointer-pairs g f))
+next-pairs g f = chosen (λ (n : ℕ). n % 4 ≡ 0) (lengthNow g ≤? g .«echo_ptr» + 4) (omega arith) (omega arith)
 
 next-within : (g : Globals) → (pointerNext g ≡ 0) ⊎ (pointerNext g < lengthNow g)
 unfolding pointerNext
@@ -64,4 +64,4 @@ next-within g =
 
 pub fit-kept-echo : (g : Globals) (l r : ℤ) → FitGlobals g → FitGlobals (echoMoved g l r)
 unfolding echoMoved
-fit-kept-echo g l r f = (f .0, (f .1 .0, (delay-most g f, (pmon-even g f, (now-pages g f, (now-most g f, (next-pairs g f, (next-within g, tt))))))))
+fit-kept-echo g l r f = (f .0, (f .1 .0, (f .1 .1 .0, (f .1 .1 .1 .0, (now-pages g f, (now-most g f, (next-pairs g f, (next-within g, tt))))))))

@@ -58,7 +58,7 @@ dry-after old c ram (suc n) r l f e =
     let s = turns (turn 0xFF old c ram) n r in
     let g = fit-kept-turns 0xFF old c ram n r (omega arith) f in
     let y = ownCell c ram n (s .sums .prev) (getD (s .voices) n noVoice) (getD (s .delays) n 0) (s .bytes) .voice in
-    rw (full n (omega arith), set-here noVoice (s .voices) n y (omega (arith, g .count)), dry-before (s .voices) y n, ← dry-after old c ram n r (omega arith) f e)
+    rw (full n (omega arith), set-here noVoice (s .voices) n y (omega arith), dry-before (s .voices) y n, ← dry-after old c ram n r (omega arith) f e)
 
 -- the sample of a tick is the stereo sample of the record that it leaves
 pub tick-renders : (d : Dsp) (ram old : List ℕ) → length ram ≡ 0x10000 → length (d .registers) ≡ 128 → length (d .voices) ≡ 8 → length (d .«kon_delay») ≡ 8 → Fit d

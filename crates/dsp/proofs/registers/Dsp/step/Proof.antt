@@ -14,7 +14,7 @@ use Rattle.dsp.proofs.registers.Dsp.step.Tie as tie
 
 -- past the first test RAM has its length
 sized : (c : tie.Else1) → length (c .before .before .args .ram .now) ≡ 0x10000
-sized c = omega (arith, c .if1 .left)
+sized c = omega arith
 
 returns : tie.Need-returns
 unfolding stepOf

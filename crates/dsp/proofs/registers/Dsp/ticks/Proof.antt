@@ -13,7 +13,7 @@ use Rattle.dsp.proofs.registers.Dsp.ticks.Tie as tie
 
 -- past the first test RAM has its length, and past the second the record is fit
 sized : (c : tie.Else1) → length (c .before .before .before .before .args .ram .now) ≡ 0x10000
-sized c = omega (arith, c .if1 .left)
+sized c = omega arith
 
 fitting : (c : tie.Else2) → fit (c .before .before .before .before .before .before .args .self) ≡ true
 fitting c = sym (c .before .is-fit .ensures) ∙ not-false _ (c .if2 .left)
