@@ -3,16 +3,15 @@ use mathlib.Core.List.{List}
 use mathlib.Core.Logic.{_⊎_, inl, inr, ⊎-elim}
 use mathlib.Core.Path.{_≡_, refl}
 use Prim.Native.Nat.{ℕ, _+_, _%_, _≤_, _<_}
-use native.Mathlib.Decide.{decLe}
 use native.Mathlib.Omega.{arith}
-use borrow.Author.Tests.{le-leb, lt-leb}
+use borrow.Author.Tests.{leb-false}
 use lib.IntN.{ℤ}
 use lib.Signed.{mag}
 use mir.Syntax.{w8, w16}
 use mir.Val.{toZ, ofZ}
 use Rattle.numbers.specs.Choice.{_≤?_, _=?_}
 use Rattle.numbers.proofs.Range.{landed}
-use Rattle.numbers.proofs.Choice.{chosen}
+use Rattle.numbers.proofs.Choice.{tested, chosen}
 use Rattle.numbers.specs.Listed.{movedOn}
 use Rattle.numbers.specs.Signed.{_>>_}
 use Rattle.sound.specs.Sound.{fedBack, firOf}
@@ -57,10 +56,7 @@ next-pairs g f = chosen (λ (n : ℕ). n % 4 ≡ 0) (lengthNow g ≤? g .«echo_
 next-within : (g : Globals) → (pointerNext g ≡ 0) ⊎ (pointerNext g < lengthNow g)
 unfolding pointerNext
 next-within g =
-    elim (decLe (lengthNow g) (g .«echo_ptr» + 4)) [
-      | yes e ↦ rw (le-leb _ _ e) (inl refl)
-      | no e ↦ let l : g .«echo_ptr» + 4 < lengthNow g = omega arith in rw (lt-leb _ _ l) (inr l)
-    ]
+    tested (λ (n : ℕ). (n ≡ 0) ⊎ (n < lengthNow g)) (lengthNow g ≤? g .«echo_ptr» + 4) (λ e. inl refl) (λ e. inr (leb-false _ _ e))
 
 pub fit-kept-echo : (g : Globals) (l r : ℤ) → FitGlobals g → FitGlobals (echoMoved g l r)
 unfolding echoMoved

@@ -40,7 +40,7 @@ module _ (ram : List ℕ) (dir srcn : ℕ) where
 -- ---- the block that is played: 16 samples, of which the next is below 16, and a fill of 0 or 16
 
 pub next-fit : (b : Brr) → (b .«nibble_idx» =? 15) ≡ false → FitBrr b → FitBrr (withNibble b (b .«nibble_idx» + 1))
-next-fit b e h = let n = h .0 in let l : b .«nibble_idx» ≡ 15 → ⊥ = eqb-false _ _ e in (omega arith, h .1)
+next-fit b e h = let l : b .«nibble_idx» ≡ 15 → ⊥ = eqb-false _ _ e in (omega arith, h .1)
 
 pub record Ready (b : Brr) : Type 0 where
   pub sized : length (b .«sample_buffer») ≡ 16

@@ -3,11 +3,10 @@ use borrow.Author.Needs.{needs}
 use native.Mathlib.Nat.{mod-eq-of-lt}
 use mathlib.Core.Path.{refl, sym, subst}
 use mir.Facts.{toZ-ofZ}
-use Rattle.dsp.specs.Fit.{FitAdsr, FitVoice}
+use Rattle.dsp.specs.Fit.{FitVoice}
 use Rattle.dsp.specs.Voice.{Sounding}
 use Rattle.dsp.specs.Lane.{waitedOf}
-use Rattle.dsp.specs.Inside.{asAdsr, asVoice, asShared}
-use Rattle.dsp.specs.declared.adsr.Settings.{Settings}
+use Rattle.dsp.specs.Inside.{asVoice, asShared}
 use Rattle.dsp.proofs.Fits.{adsr-fit, brr-fit}
 use Rattle.dsp.proofs.Moves.{polled-keeps}
 use Rattle.dsp.proofs.Lanes.{fits}
@@ -27,7 +26,7 @@ waited-requires c κs =
     let p = c .before .before .before .before .before in
     let w = asVoice (s .args .v) (p .polled .result) (s .args .v .brr .«sample_buffer») in
     let h = still-fit p in
-    (s .pre .0, s .pre .1, s .pre .2, s .pre .4, subst (λ (f : Settings). FitAdsr (asAdsr f (p .polled .result .envelope))) (sym (c .before .before .settings .ensures)) (adsr-fit w h), brr-fit w h)
+    (s .pre .0, s .pre .1, s .pre .2, s .pre .4, rw (c .before .before .settings .ensures) (adsr-fit w h), brr-fit w h)
 
 returns : tie.Need-returns
 unfolding waitedOf
