@@ -32,15 +32,11 @@ full =
     (below-more Has 6 (below-more Has 5 (below-more Has 4 (below-more Has 3 (below-more Has 2 (below-more Has 1 (below-more Has 0 (below-none Has) refl) refl) refl) refl) refl) refl) refl)
     refl
 
-turn-whole : (old found : List ℕ) (c : Shared) (ram : List ℕ) (j : ℕ) (r : Round) → j < 8 → turn 0xFF old c ram j r ≡ turn 0xFF found c ram j r
-unfolding turn turned
-turn-whole old found c ram j r l = rw (full j l)
-
 pub tick-whole : (old found : List ℕ) (p : Parts) (ram : List ℕ) → tickOf everything old p ram ≡ tickOf everything found p ram
-unfolding tickOf voicesTick echoLane
+unfolding tickOf voicesTick echoLane turn turned
 tick-whole old found p ram =
     let c = sharedOf (p .globals) (p .registers) in
-    ap (mixedFrom true old p ram) (turns-same (turn 0xFF old c ram) (turn 0xFF found c ram) 8 (turn-whole old found c ram) 8 (startOf p) (omega arith))
+    ap (mixedFrom true old p ram) (turns-same (turn 0xFF old c ram) (turn 0xFF found c ram) 8 (λ j r l. rw (full j l)) 8 (startOf p) (omega arith))
 
 -- ---- a tick is `step`, then `render_audio_single`
 
