@@ -4,6 +4,7 @@ use mathlib.Core.Path.{_≡_, refl, sym, ap, _∙_}
 use Prim.Native.Nat.{ℕ, zero, suc, _≤_, _<_}
 use native.Mathlib.Omega.{arith}
 use lib.ListN.{getD, set, length}
+use lib.Seq.{getD-set-same, getD-set-other}
 use Rattle.numbers.specs.Listed.{turns, folded}
 
 -- of the first k turns, what each of them keeps
@@ -28,15 +29,10 @@ set-keeps P d (x ∷ xs) (suc n) w p zero h = h
 set-keeps P d (x ∷ xs) (suc n) w p (suc m) h = set-keeps P d xs n w p m h
 
 pub set-here : {A : Type 0} (d : A) (xs : List A) (n : ℕ) (w : A) → n < length xs → getD (set xs n w) n d ≡ w
-set-here d [] n w l = absurd (omega arith)
-set-here d (x ∷ xs) zero w l = refl
-set-here d (x ∷ xs) (suc n) w l = set-here d xs n w (omega arith)
+set-here d xs n w l = getD-set-same xs n w d l
 
 pub set-there : {A : Type 0} (d : A) (xs : List A) (n m : ℕ) (w : A) → m < n → getD (set xs n w) m d ≡ getD xs m d
-set-there d [] n m w l = refl
-set-there d (x ∷ xs) zero m w l = absurd (omega arith)
-set-there d (x ∷ xs) (suc n) zero w l = refl
-set-there d (x ∷ xs) (suc n) (suc m) w l = set-there d xs n m w (omega arith)
+set-there d xs n m w l = getD-set-other xs n m w d (λ e. omega arith)
 
 -- ---- folds over a list
 
