@@ -5,10 +5,10 @@ use Prim.Native.Nat.{_-_}
 use native.Mathlib.Omega.{arith}
 use lib.ListN.{length}
 use Rattle.dsp.specs.Fit.{Fit}
-use Rattle.log.proofs.Turn.{Turned}
+use Rattle.log.proofs.Turn.{Turned, turned}
 use Rattle.sitting.specs.Play.{starting}
 use Rattle.sitting.specs.Stand.{standing}
-use Rattle.sitting.proofs.Plays.{Playing, started, went, played-on, room, finished}
+use Rattle.sitting.proofs.Plays.{Playing, started, played-on, room, finished}
 use Rattle.sitting.proofs.play.play_all.Statement.{statement}
 use Rattle.sitting.proofs.play.play_all.Tie as tie
 
@@ -24,7 +24,7 @@ abbrev μ-loop : tie.MeasureT-loop
 -- the turn, where the log goes on
 turn : (c : tie.After-known-told Inv-loop μ-loop)
     → Turned (c .before .before .before .before .before .before .before .before .before .before .args .log .now) (c .before .before .before .before .loop .at) (c .before .before .before .before .loop .s .ticks) (c .before .before .before .before .loop .s .readings) (c .before .before .before .before .loop .inv .5 .here .f) (c .before .found .given .0 .0) (c .before .found .given .0 .1 .0)
-turn c = went (c .before .before .before .before .loop .inv .5) (c .before .before .before .read .ensures .0) (c .before .before .before .before .before .before .before .before .before .before .pre .2 .all) (c .before .found .given .1) (c .before .before .before .read .ensures .1)
+turn c = turned (c .before .before .before .before .loop .inv .5 .here) (c .before .before .before .read .ensures .0) (c .before .before .before .before .before .before .before .before .before .before .pre .2 .all) (c .before .found .given .1) (c .before .before .before .read .ensures .1)
 
 loop-holds : tie.Need-loop-holds Inv-loop μ-loop
 loop-holds c = (refl, refl, refl, refl, c .before .before .before .before .before .pre .1, started _ _ _)
@@ -63,7 +63,7 @@ loop-again : tie.Need-loop-again Inv-loop μ-loop
 loop-again c = let l = c .before .before .before .before .before .before .before .before .before .before .before .before .before .before .before .before .before .loop in
     let k = c .before .before .before .before .before .before .before .before .played .kept in
     let e = c .before .before .before .before .before .before .before .before .played .ensures in
-    (k .1 .1 .1 .0 ∙ l .inv .0, k .1 .1 .1 .1 .0 ∙ l .inv .1, k .1 .1 .1 .1 .1 .0 ∙ l .inv .2, k .1 .1 .1 .1 .1 .1 .0 ∙ l .inv .3, e .1, played-on {y = e .0 0} (l .inv .5) (turn (c .before .before .before .before .before .before .before .before .before .before .before .before .before)) (record { is = e .0; fit = e .1; ticks = e .2; readings = e .3 }))
+    (k .1 .1 .1 .0 ∙ l .inv .0, k .1 .1 .1 .1 .0 ∙ l .inv .1, k .1 .1 .1 .1 .1 .0 ∙ l .inv .2, k .1 .1 .1 .1 .1 .1 .0 ∙ l .inv .3, e .1, played-on {y = e .0 0} (l .inv .5) (turn (c .before .before .before .before .before .before .before .before .before .before .before .before .before)) (e .0) (e .2) (e .3))
 
 pub play-all-spec : {M : Type 1} → statement M
 play-all-spec =
