@@ -37,31 +37,24 @@ pub played-on : {w : Work} {log : List ℕ} {x₀ x y : Run} {at t q t′ q′ b
 unfolding playAll
 played-on p u is ticks readings = rw (ticks, readings) (record { here = u .here; rest = cc })
 
--- what a record needs, and the slices have
-pub record Room (pcm sheet readings : List ℕ) (t q : ℕ) (r : Record) : Type 0 where
-  pub known : Known r
-  pub few : t + ticksIn r ≤ 32000
-  pub heard : (t + ticksIn r) * 4 ≤ length pcm
-  pub shown : (t + ticksIn r) * 36 ≤ length sheet
-  pub told : q + readingsIn r ≤ length readings
+module _ {log pcm₀ sheet₀ readings₀ : List ℕ} (pcm sheet readings : List ℕ) (R : Ready log pcm₀ sheet₀ readings₀)
+    (lp : length pcm ≡ length pcm₀) (ls : length sheet ≡ length sheet₀) (lq : length readings ≡ length readings₀) {at t q : ℕ} where
+  -- what a record needs, and the slices have
+  pub room : {f behind : ℕ} {r : Record} → Turned log at t q f r behind
+      → Known r × (t + ticksIn r ≤ 32000) × ((t + ticksIn r) * 4 ≤ length pcm) × ((t + ticksIn r) * 36 ≤ length sheet) × (q + readingsIn r ≤ length readings)
+  room {behind = behind} u =
+      let d = decodeFrom (u .here .f) log behind in
+      let m = most (d .records) (d .stop) _ _ (R .ticks) (R .count) (u .here .rest ∙ R .all) in
+      (u .known, omega arith, omega arith, omega arith, omega arith)
 
-pub room : {log pcm₀ sheet₀ readings₀ : List ℕ} (pcm sheet readings : List ℕ) {at t q f behind : ℕ} {r : Record} (R : Ready log pcm₀ sheet₀ readings₀) → Turned log at t q f r behind
-    → length pcm ≡ length pcm₀ → length sheet ≡ length sheet₀ → length readings ≡ length readings₀ → Room pcm sheet readings t q r
-room {log} pcm sheet readings {behind = behind} R u lp ls lq =
-    let d = decodeFrom (u .here .f) log behind in
-    let m = most (d .records) (d .stop) _ _ (R .ticks) (R .count) (u .here .rest ∙ R .all) in
-    record { known = u .known; few = u .here .few; heard = omega arith; shown = omega arith; told = omega arith }
-
--- where the log ends, what has been put out is all of each slice
-pub finished : {w : Work} {log pcm₀ sheet₀ readings₀ : List ℕ} {x₀ : Run} (d : Dsp) (ram pcm sheet readings : List ℕ) (at t q : ℕ) {n : Next} {k : ℕ}
-    (R : Ready log pcm₀ sheet₀ readings₀) → length pcm ≡ length pcm₀ → length sheet ≡ length sheet₀ → length readings ≡ length readings₀
-    → Playing w log x₀ (standing d ram pcm sheet readings t q) at t q → n ≡ readAt log at → n ≡ Off k
-    → _≡_ {A = Run} (record { bench = record { parts = apart d; ram = ram; pcm = pcm; sheet = sheet; old = [] }; readings = readings }) (playAll w (decode log .records) x₀)
-unfolding playAll
-finished {w} {log} d ram pcm sheet readings at t q R lp ls lq p is e =
-    let o = ended (p .here) is (R .all) e in
-    let a₁ = take-all (t * 4) pcm (omega arith) in
-    let a₂ = take-all (t * 36) sheet (omega arith) in
-    let a₃ = drop-of-length-le sheet {i = t * 36} (omega arith) in
-    let a₄ = take-all q readings (omega arith) in
-    cc
+  -- where the log ends, what has been put out is all of each slice
+  pub finished : {w : Work} {x₀ : Run} (d : Dsp) (ram : List ℕ) {n : Next} {k : ℕ} → Playing w log x₀ (standing d ram pcm sheet readings t q) at t q → n ≡ readAt log at → n ≡ Off k
+      → _≡_ {A = Run} (record { bench = record { parts = apart d; ram = ram; pcm = pcm; sheet = sheet; old = [] }; readings = readings }) (playAll w (decode log .records) x₀)
+  unfolding playAll
+  finished d ram p is e =
+      let o = ended (p .here) is (R .all) e in
+      let a₁ = take-all (t * 4) pcm (omega arith) in
+      let a₂ = take-all (t * 36) sheet (omega arith) in
+      let a₃ = drop-of-length-le sheet {i = t * 36} (omega arith) in
+      let a₄ = take-all q readings (omega arith) in
+      cc
