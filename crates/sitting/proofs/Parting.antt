@@ -1,7 +1,7 @@
 -- A part: that it moves on, what its ticks leave, and its answer by the tests before them.
 use mathlib.Core.List.{List, _++_}
 use mathlib.Core.Logic.{_≢_}
-use mathlib.Core.Path.{_≡_, refl, ap, _∙_}
+use mathlib.Core.Path.{_≡_, refl, ap}
 use Prim.Native.Nat.{ℕ, zero, suc, _-_, _*_, _≤_}
 use native.Mathlib.Omega.{arith}
 use lib.ListN.{length, take, drop}
@@ -51,7 +51,5 @@ pub sound-is : (w : Work) (n : ℕ) (d : Dsp) (at left : ℕ) (ram pcm sheet : L
     → _≡_ {A = Parted} (record { told = told; ram = x .ram; pcm = x .pcm ++ drop (n * 4) pcm }) (sounding n d at left ram pcm)
 unfolding sounding
 sound-is w n d at left ram pcm sheet x told ew lr f hp ls ex et =
-    let q = ex ∙ ap (λ (v : Work). driveOf v n d ram (take (n * 4) pcm) sheet) ew ∙ driven everything n d ram (take (n * 4) pcm) sheet lr f (length-take-le (n * 4) pcm hp) ls in
-    (λ i. record { told = et i; ram = x .ram; pcm = x .pcm ++ drop (n * 4) pcm })
-    ∙ (λ i. record { told = telling (q i .dsp) at (left - n) (Sound n); ram = q i .ram; pcm = q i .pcm ++ drop (n * 4) pcm })
-    ∙ ap (soundingFrom n at left pcm) (ticks-unseen n (benchOf d ram sheet))
+    rw (et, ex, ew, driven everything n d ram (take (n * 4) pcm) sheet lr f (length-take-le (n * 4) pcm hp) ls)
+    (ap (soundingFrom n at left pcm) (ticks-unseen n (benchOf d ram sheet)))
