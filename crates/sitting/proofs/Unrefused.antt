@@ -1,13 +1,12 @@
 -- A log that `measureOf` takes: no part of it is refused, from the first stage on. Of any other log the first part is.
-use mathlib.Core.Bool.{true}
 use mathlib.Core.List.{List, [], _∷_}
 use mathlib.Core.Path.{_≡_, refl, sym, ap, subst}
 use Prim.Native.Nat.{ℕ, zero, suc, _≤_, _<_}
 use native.Mathlib.Omega.{arith}
 use lib.ListN.{length, getD}
-use borrow.Author.Tests.{eqb-true, eqb-false, eq-eqb, ne-eqb, le-ltb}
+use borrow.Author.Tests.{eq-eqb, ne-eqb, le-ltb}
 use Rattle.numbers.specs.Choice.{_=?_}
-use Rattle.numbers.proofs.Choice.{tested, chosen}
+use Rattle.numbers.proofs.Choice.{chosen}
 use Rattle.dsp.specs.Machine.{together}
 use Rattle.dsp.specs.Fit.{fit}
 use Rattle.dsp.specs.Registers.{writeAt}
@@ -25,6 +24,7 @@ use Rattle.log.specs.declared.Next.the-variants.{On, Off}
 use Rattle.log.proofs.Places.{moves, ByteValue, byte-value}
 use Rattle.log.proofs.Turn.{Here, Taken, taken, here-first, turned, ended}
 use Rattle.sitting.specs.Parts.{Parted, stopAt, recordAt, nextAt, ticksNow, sounding, logRefusal, partOf, furtherParts, Roomy, PartsChecked}
+use Rattle.sitting.proofs.Together.{Admitted, by-tests}
 
 -- a stage that parts come to: its place is reached by the log's records, the record is fit, RAM has its length
 pub record Reached (log : List ℕ) (d : Dsp) (at : ℕ) (ram : List ℕ) : Type 0 where
@@ -89,18 +89,9 @@ module _ (log : List ℕ) (m : Measured) (t : Taken log m) (bytes : (i : ℕ) �
 
 -- ---- a part that is not refused has passed its tests
 
-record Admitted (d : Dsp) (at : ℕ) (ram log : List ℕ) : Type 0 where
-  ram-is : length ram ≡ 0x10000
-  fit-is : fit d ≡ true
-  log-is : logRefusal at log ≡ 0
-
 admitted : (d : Dsp) (at left : ℕ) (ram log pcm : List ℕ) → partOf d at left ram log pcm .told .refusal ≡ 0 → Admitted d at ram log
-unfolding partOf
 admitted d at left ram log pcm =
-    let P : Parted → Type 0 = (λ p. p .told .refusal ≡ 0 → Admitted d at ram log) in
-    tested P (length ram =? 0x10000) (λ l. tested P (fit d) (λ f. tested P (logRefusal at log =? 0)
-    (λ k e. record { ram-is = eqb-true _ _ l; fit-is = f; log-is = eqb-true _ _ k })
-    (λ k e. absurd (eqb-false (logRefusal at log) 0 k e))) (λ _ e. absurd (omega arith))) (λ _ e. absurd (omega arith))
+    by-tests (λ p. p .told .refusal ≡ 0 → Admitted d at ram log) d at left ram log pcm (λ k h e. absurd (h e)) (λ a z e. a) (λ a e. a)
 
 -- part after part
 parts-unrefused : (log : List ℕ) (m : Measured) → Taken log m → ((i : ℕ) → getD log i 0 < 256) → (pcms : List (List ℕ)) → Roomy pcms → (p : Parted) → Unrefused log p

@@ -1,7 +1,7 @@
 -- By the refusals, in their order; then the log's records.
 use borrow.Author.Needs.{needs}
 use mathlib.Core.Bool.{true}
-use mathlib.Core.Path.{_≡_, sym, ap, _∙_}
+use mathlib.Core.Path.{_≡_, sym, _∙_}
 use native.Mathlib.Omega.{arith}
 use lib.ListN.{length}
 use borrow.Author.Tests.{eq-eqb, ne-eqb, not-true, not-false}
@@ -57,7 +57,7 @@ returns-5 c =
     let r = c .before .before .before .before .before .before .before .before .before .before .before .before .before .before .is-room in
     let m = q .before .before .measure .result in
     rw (eq-eqb _ _ (ram-there (q .before .before .before .before .before)), fit-there (q .before .before .before), ← q .before .before .measure .ensures, eq-eqb _ _ (q .if3 .left), ← r .ensures, not-false (r .result) (c .before .before .before .before .before .before .before .before .before .before .before .before .before .if4 .left))
-    (ap (ran m) (c .before .before .before .before .before .before .before .before .play-all .ensures))
+    (λ i. ran m (c .before .before .before .before .before .before .before .before .play-all .ensures i))
 
 pub run-with-spec : {M : Type 1} → statement M
 run-with-spec =
