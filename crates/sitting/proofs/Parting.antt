@@ -1,4 +1,5 @@
 -- A part: that it moves on, what its ticks leave, and its answer by the tests before them.
+use mathlib.Core.Bool.{false}
 use mathlib.Core.List.{List, _++_}
 use mathlib.Core.Logic.{_≢_}
 use mathlib.Core.Path.{_≡_, refl, ap}
@@ -6,8 +7,8 @@ use Prim.Native.Nat.{ℕ, zero, suc, _-_, _*_, _≤_}
 use native.Mathlib.Omega.{arith}
 use lib.ListN.{length, take, drop}
 use lib.Seq.{length-take-le}
-use borrow.Author.Tests.{ne-eqb}
-use Rattle.dsp.specs.Fit.{Fit}
+use borrow.Author.Tests.{eq-eqb, ne-eqb}
+use Rattle.dsp.specs.Fit.{Fit, fit}
 use Rattle.dsp.specs.Tick.{everything}
 use Rattle.dsp.specs.Ticks.{benchOf, Drove, driveOf}
 use Rattle.dsp.specs.declared.registers.Dsp.{Dsp}
@@ -18,7 +19,7 @@ use Rattle.log.specs.declared.Record.the-variants.{Write, Ticks, Reading}
 use Rattle.log.specs.declared.Next.{Next}
 use Rattle.log.specs.declared.Next.the-variants.{On, Off}
 use Rattle.log.proofs.Places.{moves}
-use Rattle.sitting.specs.Parts.{Told, Parted, telling, untold, stopAt, recordAt, nextAt, soundingFrom, sounding, Goes}
+use Rattle.sitting.specs.Parts.{Told, Parted, telling, untold, stopAt, recordAt, nextAt, soundingFrom, sounding, partOf, Goes}
 use Rattle.sitting.specs.declared.parts.Heard.the-variants.{Sound}
 use Rattle.sitting.proofs.Runs.{ticks-unseen}
 
@@ -53,3 +54,18 @@ unfolding sounding
 sound-is w n d at left ram pcm sheet x told ew lr f hp ls ex et =
     rw (et, ex, ew, driven everything n d ram (take (n * 4) pcm) sheet lr f (length-take-le (n * 4) pcm hp) ls)
     (ap (soundingFrom n at left pcm) (ticks-unseen n (benchOf d ram sheet)))
+
+-- ---- the first two refusals, in their order
+
+-- what is promised of a part that leaves p
+abbrev Answers : Dsp → ℕ → ℕ → List ℕ → List ℕ → List ℕ → Parted → Type 0
+Answers d at left ram log pcm p = (p ≡ partOf d at left ram log pcm) × Goes at left (length log) (p .told)
+
+module _ (d : Dsp) (at left : ℕ) (ram log pcm : List ℕ) (t : Told) where
+  pub ram-refused : length ram ≢ 0x10000 → t ≡ untold 1 d at left → Answers d at left ram log pcm (record { told = t; ram = ram; pcm = pcm })
+  unfolding partOf
+  ram-refused l e = (rw (ne-eqb _ _ l, e), refused-goes at left _ e (λ z. absurd (omega arith)))
+
+  pub unfit-refused : length ram ≡ 0x10000 → fit d ≡ false → t ≡ untold 2 d at left → Answers d at left ram log pcm (record { told = t; ram = ram; pcm = pcm })
+  unfolding partOf
+  unfit-refused l f e = (rw (eq-eqb _ _ l, f, e), refused-goes at left _ e (λ z. absurd (omega arith)))

@@ -8,7 +8,7 @@ use borrow.Author.Tests.{eq-eqb, ne-eqb, lt-ltb, le-ltb, not-true, not-false}
 use Rattle.dsp.specs.Fit.{fit}
 use Rattle.dsp.proofs.Fits.{fit-facts}
 use Rattle.sitting.specs.Parts.{logRefusal, partOf}
-use Rattle.sitting.proofs.Parting.{refused-goes, sound-goes}
+use Rattle.sitting.proofs.Parting.{ram-refused, unfit-refused, refused-goes, sound-goes}
 use Rattle.sitting.proofs.parts.run_part.Statement.{statement}
 use Rattle.sitting.proofs.parts.run_part.Tie as tie
 
@@ -24,13 +24,11 @@ log-taken : (c : tie.Else3) → logRefusal (c .before .before .before .before .b
 log-taken c = sym (c .before .log-refusal .ensures) ∙ c .if3 .left
 
 returns : tie.Need-returns
-unfolding partOf
-returns c = (rw (ne-eqb _ _ (c .before .if1 .taken)) (cc), refused-goes _ _ _ (c .refused .ensures) (λ z. absurd (omega arith)))
+returns c = ram-refused _ _ _ _ _ _ _ (c .before .if1 .taken) (c .refused .ensures)
 
 returns-2 : tie.Need-returns-2
-unfolding partOf
 returns-2 c =
-    (rw (eq-eqb _ _ (ram-there (c .before .before .before)), sym (c .before .before .is-fit .ensures) ∙ not-true _ (c .before .if2 .taken)) (cc), refused-goes _ _ _ (c .refused2 .ensures) (λ z. absurd (omega arith)))
+    unfit-refused _ _ _ _ _ _ _ (ram-there (c .before .before .before)) (sym (c .before .before .is-fit .ensures) ∙ not-true _ (c .before .if2 .taken)) (c .refused2 .ensures)
 
 returns-3 : tie.Need-returns-3
 unfolding partOf
