@@ -4,15 +4,12 @@ use Rattle.replay.specs.Block.{blockEqual}
 use Rattle.replay.proofs.block.equal.Statement.{statement}
 use Rattle.replay.proofs.block.equal.Tie as tie
 
-returns : tie.Need-returns
-unfolding blockEqual
-returns c = cc
-
 pub equal-spec : {M : Type 1} → statement M
+unfolding blockEqual
 equal-spec =
     tie.close
     (tie.spec
     (λ c κs. search needs)
     (λ c κs. search needs)
     (λ c κs. search needs)
-    returns)
+    (λ c. cc))

@@ -5,13 +5,11 @@ use Rattle.sitting.specs.Parts.{stopAt}
 use Rattle.sitting.proofs.parts.Stage.stopped.Statement.{statement}
 use Rattle.sitting.proofs.parts.Stage.stopped.Tie as tie
 
-returns : tie.Need-returns
-unfolding stopAt
-returns c = rw (ne-eqb _ _ (c .before .if1 .taken)) (cc)
-
-returns-2 : tie.Need-returns-2
-unfolding stopAt
-returns-2 c = rw (eq-eqb _ _ (c .if1 .left)) (cc)
-
 pub stopped-spec : {M : Type 1} → statement M
-stopped-spec = tie.close (tie.spec (λ c κs. search needs) returns returns-2)
+unfolding stopAt
+stopped-spec =
+    tie.close
+    (tie.spec
+    (λ c κs. search needs)
+    (λ c. rw (ne-eqb _ _ (c .before .if1 .taken)) (cc))
+    (λ c. rw (eq-eqb _ _ (c .if1 .left)) (cc)))
