@@ -39,6 +39,10 @@ pub record Unrefused (log : List ℕ) (p : Parted) : Type 0 where
   pub taken : p .told .refusal ≡ 0
   pub next : Reached log (p .told .dsp) (p .told .at) (p .ram)
 
+-- before the first part
+pub reached-first : (log : List ℕ) (d : Dsp) (ram : List ℕ) → BenchFit (benchOf d ram []) → Reached log d 0 ram
+reached-first log d ram f = record { ticks = 0; readings = 0; here = here-first log; fit = f }
+
 again : (b : Bench) → BenchFit b → BenchFit (benchOf (together (b .parts)) (b .ram) [])
 again b f = record { ram = f .ram; round = f .round; globals = f .globals }
 
@@ -74,7 +78,7 @@ module _ (log : List ℕ) (m : Measured) (t : Taken log m) (bytes : (i : ℕ) �
     record-unrefused =
         rw (eq-eqb _ _ (r .fit .ram), facts-fit d (bench-fit _ (r .fit)), eq-eqb _ _ log-taken) (next-unrefused (readAt log at) refl (byte-value log at bytes))
 
-    part-unrefused : (left : ℕ) → 4 ≤ length pcm → Unrefused log (partOf d at left ram log pcm)
+    pub part-unrefused : (left : ℕ) → 4 ≤ length pcm → Unrefused log (partOf d at left ram log pcm)
     unfolding partOf
     part-unrefused zero h = record-unrefused
     part-unrefused (suc left) h =
@@ -94,5 +98,5 @@ parts-checked d ram log pcm typed e =
     let b = by-tests (λ p. p .told .refusal ≡ 0 → Admitted d 0 ram log) d 0 0 ram log pcm (λ k h e. absurd (h e)) (λ a z e. a) (λ a e. a) e in
     let t = taken log (measureOf log) refl (b .log-is) in
     let f = fit-bench d ram [] [] [] (b .ram-is) (typed .0) (typed .1) (typed .2) (fit-facts d (b .fit-is)) in
-    let u = record-unrefused log (measureOf log) t (typed .3) d 0 ram pcm (record { ticks = 0; readings = 0; here = here-first log; fit = f }) in
+    let u = record-unrefused log (measureOf log) t (typed .3) d 0 ram pcm (reached-first log d ram f) in
     (b .log-is, λ pcms h. parts-unrefused log (measureOf log) t (typed .3) pcms h _ u)
