@@ -3,9 +3,6 @@ use borrow.Author.Needs.{needs}
 use Rattle.sitting.proofs.running.run.Statement.{statement}
 use Rattle.sitting.proofs.running.run.Tie as tie
 
-returns : tie.Need-returns
-returns c = rw (← c .before .before .before .before .before .before .before .before .before .before .before .before .before .everything .ensures) (c .before .before .before .before .before .before .before .before .run-with .ensures)
-
 pub run-spec : {M : Type 1} → statement M
 run-spec =
     tie.close
@@ -16,4 +13,4 @@ run-spec =
     (λ c. search needs)
     (λ c. search needs)
     (λ c. search needs)
-    returns)
+    (λ c. cc))

@@ -3,9 +3,6 @@ use borrow.Author.Needs.{needs}
 use Rattle.sitting.proofs.running.run_new.Statement.{statement}
 use Rattle.sitting.proofs.running.run_new.Tie as tie
 
-returns : tie.Need-returns
-returns c = rw (← c .before .before .before .before .before .before .before .before .before .before .before .before .before .new .ensures) (c .before .before .before .before .before .before .before .before .run .ensures)
-
 pub run-new-spec : {M : Type 1} → statement M
 run-new-spec =
     tie.close
@@ -16,4 +13,4 @@ run-new-spec =
     (λ c. search needs)
     (λ c. search needs)
     (λ c. search needs)
-    returns)
+    (λ c. cc))
