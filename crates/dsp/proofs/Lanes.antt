@@ -19,10 +19,10 @@ use Rattle.dsp.specs.Lane.{Shared, Waiting, waited, waitedOf, noised, Ce
 use Rattle.dsp.specs.declared.voice.Voice.{Voice}
 use Rattle.dsp.proofs.Fits.{most-of, voice-fit, adsr-fit, brr-fit, silenced-fit}
 use Rattle.dsp.proofs.Envelopes.{fit-kept-envelope}
-use Rattle.dsp.proofs.Moves.{Ticked, waited-keeps}
+use Rattle.dsp.proofs.Moves.{KeptByTick, waited-keeps}
 use Rattle.dsp.proofs.Plays.{next-fit}
 
-pub fits : Ticked FitVoice
+pub fits : KeptByTick FitVoice
 unfolding pushed interpolated keyedOn
 fits =
     record {

@@ -18,21 +18,21 @@ use Rattle.dsp.specs.declared.voice.Voice.{Voice}
 use Rattle.dsp.proofs.Pitch.{position-le}
 
 -- K is kept by a new block, silence, a sample that is not a block's last, and a position
-pub record Played (K : Voice → Type 0) : Type 0 where
+pub record KeptByPlay (K : Voice → Type 0) : Type 0 where
   pub fill : (v : Voice) (history : List ℤ) (ram : List ℕ) (a : ℕ) (p q : ℤ) → K v → K (withBrr v history (blockOf a (decodeBlock ram a p q)))
   pub mute : (v : Voice) → K v → K (silenced v)
   pub push : (v : Voice) → (v .brr .«nibble_idx» =? 15) ≡ false → K v → K (pushed v)
   pub place : (v : Voice) (p : ℕ) → p ≤ 0x7FFF → K v → K (withPosition v p)
 
 -- and by the envelope, the interpolation, KOFF and KON
-pub record Ticked (K : Voice → Type 0) : Type 0 where
-  pub played : Played K
+pub record KeptByTick (K : Voice → Type 0) : Type 0 where
+  pub played : KeptByPlay K
   pub tick : (v : Voice) → K v → K (withEnvelope v (envelopeTick (v .adsr)))
   pub interpolate : (v : Voice) → K v → K (interpolated v)
   pub off : (v : Voice) → K v → K (withKey v false (withState (v .adsr) (v .adsr .«envelope_level») Release (v .adsr .«tick_counter»)))
   pub on : (dir : ℕ) (v : Voice) → K v → K (keyedOn true dir v)
 
-module _ {K : Voice → Type 0} (k : Played K) (ram : List ℕ) where
+module _ {K : Voice → Type 0} (k : KeptByPlay K) (ram : List ℕ) where
   abbrev InTick : Sounding → Type 0
   InTick s = K (s .voice)
 
@@ -63,7 +63,7 @@ module _ {K : Voice → Type 0} (k : Played K) (ram : List ℕ) where
       let r = resolved ram s .voice in
       consumed-keeps dir srcn (samplesTaken x r) _ (k .place r (positionOf x r) (position-le x r) (resolved-keeps s h))
 
-module _ {K : Voice → Type 0} (k : Ticked K) (c : Shared) (j : ℕ) where
+module _ {K : Voice → Type 0} (k : KeptByTick K) (c : Shared) (j : ℕ) where
   pub polled-keeps : (v : Voice) (endx : Bool) → K v → K (polledOf c j v endx .voice)
   unfolding polledOf keyedOff keyedOn
   polled-keeps v endx h =
@@ -89,7 +89,7 @@ pub volumes-kept : (c : Shared) (ram : List ℕ) (j : ℕ) (prev : ℤ) (v : Voi
 unfolding ownCell cellOf cellAfter noised pushed interpolated keyedOn
 volumes-kept c ram j prev v delay bytes =
     let Same : Voice → Type 0 = λ (w : Voice). (v .«left_vol» ≡ w .«left_vol») × (v .«right_vol» ≡ w .«right_vol») in
-    let same : Ticked Same =
+    let same : KeptByTick Same =
     record {
       played = record { fill = λ w y r a p q h. h; mute = λ w h. h; push = λ w e h. h; place = λ w p l h. h };
       tick = λ w h. h;

@@ -16,7 +16,7 @@ use Rattle.dsp.specs.Brr.{decodeBlock}
 use Rattle.dsp.specs.Voice.{Sounding, PitchSource, resolved, pushed, lastOf, takeOne, consume, idle, advanced, Stepped, shown, sounded}
 use Rattle.dsp.specs.declared.brr.Brr.{Brr}
 use Rattle.dsp.specs.declared.voice.Voice.{Voice}
-use Rattle.dsp.proofs.Moves.{Played}
+use Rattle.dsp.proofs.Moves.{KeptByPlay}
 
 -- ---- the loop that consumes
 
@@ -46,7 +46,7 @@ pub record Ready (b : Brr) : Type 0 where
   pub sized : length (b .«sample_buffer») ≡ 16
   pub block : FitBrr b
 
-pub ready : Played (λ (v : Voice). Ready (v .brr))
+pub ready : KeptByPlay (λ (v : Voice). Ready (v .brr))
 unfolding decodeBlock listed pushed
 ready =
     record {
@@ -61,7 +61,7 @@ ready =
 abbrev pub Low : Voice → Type 0
 Low v = v .adsr .«envelope_level» ≤ 0x800
 
-pub low : Played Low
+pub low : KeptByPlay Low
 unfolding pushed
 low = record { fill = λ v y r a p q h. h; mute = λ v h. omega arith; push = λ v e h. h; place = λ v p l h. h }
 
