@@ -3,6 +3,9 @@ use borrow.Author.Needs.{needs}
 use Rattle.sitting.proofs.running.run.Statement.{statement}
 use Rattle.sitting.proofs.running.run.Tie as tie
 
+returns : tie.Need-returns
+returns c = cc
+
 pub run-spec : {M : Type 1} → statement M
 run-spec =
     tie.close
@@ -13,4 +16,4 @@ run-spec =
     (λ c. search needs)
     (λ c. search needs)
     (λ c. search needs)
-    (λ c. cc))
+    returns)

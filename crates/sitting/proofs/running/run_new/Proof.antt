@@ -3,6 +3,9 @@ use borrow.Author.Needs.{needs}
 use Rattle.sitting.proofs.running.run_new.Statement.{statement}
 use Rattle.sitting.proofs.running.run_new.Tie as tie
 
+returns : tie.Need-returns
+returns c = cc
+
 pub run-new-spec : {M : Type 1} → statement M
 run-new-spec =
     tie.close
@@ -13,4 +16,4 @@ run-new-spec =
     (λ c. search needs)
     (λ c. search needs)
     (λ c. search needs)
-    (λ c. cc))
+    returns)
