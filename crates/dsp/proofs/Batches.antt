@@ -1,21 +1,18 @@
 -- Ticks in one go and ticks behind others: a batch sees only its own rows of the sheet that was found. And what the entries for a
 -- run do where they refuse nothing.
-use mathlib.Core.List.{List, [], _∷_, _++_, append-assoc, append-nil}
-use mathlib.Core.Path.{_≡_, refl, sym, ap, _∙_}
+use mathlib.Core.List.{List, _++_, append-assoc, append-nil}
+use mathlib.Core.Path.{_≡_, refl}
 use Prim.Native.Nat.{ℕ, zero, suc, _+_, _-_, _*_, _%_, _≤_, _<_}
 use native.Mathlib.Omega.{arith}
-use lib.ListN.{getD, take, drop, length, length-drop}
+use lib.ListN.{drop, length, length-drop, drop-of-length-le}
 use lib.Seq.{take-append-le, drop-append-le}
 use borrow.Author.Tests.{eq-eqb}
-use Rattle.numbers.specs.Bits.{bit}
-use Rattle.dsp.specs.Machine.{noVoice, Parts}
+use Rattle.dsp.specs.Machine.{Parts}
 use Rattle.dsp.specs.Fit.{Fit}
 use Rattle.dsp.specs.Registers.{writeAt, writeOf}
 use Rattle.dsp.specs.Sheet.{laneAt}
-use Rattle.dsp.specs.Echo.{echoLane}
-use Rattle.dsp.specs.Lane.{turned}
-use Rattle.dsp.specs.Tick.{Round, landing, turn, voicesTick, globalsTick, sharedOf, startOf, mixed, tickOf}
-use Rattle.dsp.specs.Ticks.{Bench, benchOf, onward, benchTick, ticksOf, drove, driveOf}
+use Rattle.dsp.specs.Tick.{turn, voicesTick, sharedOf, startOf, tickOf}
+use Rattle.dsp.specs.Ticks.{Bench, benchOf, benchTick, ticksOf, drove, driveOf}
 use Rattle.dsp.specs.declared.registers.Dsp.{Dsp}
 use Rattle.dsp.specs.declared.tick.Work.{Work}
 use Rattle.numbers.proofs.Turns.{turns-same}
@@ -26,25 +23,22 @@ use Rattle.dsp.proofs.Fits.{facts-fit}
 pub lane-part : (j : ℕ) (old rest : List ℕ) → j * 4 + 4 ≤ length old → laneAt j (old ++ rest) ≡ laneAt j old
 lane-part j old rest h =
     let d = length-drop (j * 4) old in
-    ap (take 4) (drop-append-le (j * 4) old rest (omega arith)) ∙ take-append-le 4 (drop (j * 4) old) rest (omega (arith, d, h))
+    rw (drop-append-le (j * 4) old rest (omega arith)) (take-append-le 4 (drop (j * 4) old) rest (omega arith))
 
 -- a tick sees 36 bytes of it
 tick-part : (w : Work) (old rest : List ℕ) (p : Parts) (ram : List ℕ) → 36 ≤ length old → tickOf w (old ++ rest) p ram ≡ tickOf w old p ram
 unfolding tickOf voicesTick turn
 tick-part w old rest p ram h =
     let c = sharedOf (p .globals) (p .registers) in
-    let same : (j : ℕ) (r : Round) → j < 8 → turn (w .voices) (old ++ rest) c ram j r ≡ turn (w .voices) old c ram j r =
-    (λ j r l. ap (λ (slot : List ℕ). landing j r (turned (bit (w .voices) j) c ram j (getD (r .voices) j noVoice) (getD (r .delays) j 0) (r .sums) (r .bytes) slot)) (lane-part j old rest (omega (arith, h, l)))) in
-    let r = turns-same (turn (w .voices) (old ++ rest) c ram) (turn (w .voices) old c ram) 8 same 8 (startOf p) (omega arith) in
-    let e = lane-part 8 old rest (omega (arith, h)) in
-    λ i. mixed (p .taps) (r i) (echoLane (w .echo) (globalsTick (p .globals)) (p .taps) (p .left) (p .right) ram (r i .sums .input) (e i))
+    let r = turns-same (turn (w .voices) (old ++ rest) c ram) (turn (w .voices) old c ram) 8 (λ j s l. rw (lane-part j old rest (omega arith))) 8 (startOf p) (omega arith) in
+    rw (r, lane-part 8 old rest (omega arith))
 
 -- ---- a batch
 
 old-left : (w : Work) (n : ℕ) (b : Bench) → length (ticksOf w n b .old) ≡ length (b .old) - n * 36
 unfolding ticksOf benchTick
 old-left w zero b = omega arith
-old-left w (suc n) b = length-drop 36 (ticksOf w n b .old) ∙ (let e = old-left w n b in omega (arith, e))
+old-left w (suc n) b = simp length-drop (omega (arith, old-left w n b))
 
 -- a bench that has put out samples and rows before, and finds more behind
 abbrev pub behind : List ℕ → List ℕ → List ℕ → Bench → Bench
@@ -56,22 +50,8 @@ ticks-behind w zero b pcm sheet rest h = refl
 ticks-behind w (suc n) b pcm sheet rest h =
     let f = ticksOf w n b in
     let o = old-left w n b in
-    let s : 36 ≤ length (f .old) = omega (arith, o, h) in
-    let t = tick-part w (f .old) rest (f .parts) (f .ram) s in
-    let u = tickOf w (f .old) (f .parts) (f .ram) in
-    ap (benchTick w) (ticks-behind w n b pcm sheet rest (omega (arith, h)))
-    ∙ ap (onward (behind pcm sheet rest f)) t
-    ∙ (λ i. record {
-      parts = u .parts;
-      ram = u .ram;
-      pcm = append-assoc pcm (f .pcm) (u .frame) i;
-      sheet = append-assoc sheet (f .sheet) (u .row) i;
-      old = drop-append-le 36 (f .old) rest s i;
-    })
-
-none-left : (xs : List ℕ) → length xs ≡ 0 → xs ≡ []
-none-left [] e = refl
-none-left (x ∷ xs) e = absurd (omega arith)
+    let s : 36 ≤ length (f .old) = omega arith in
+    rw (ticks-behind w n b pcm sheet rest (omega arith), tick-part w (f .old) rest (f .parts) (f .ram) s, append-assoc pcm, append-assoc sheet, drop-append-le 36 (f .old) rest s)
 
 -- a batch of n ticks over exactly its rows
 pub ticks-batch : (w : Work) (n : ℕ) (d : Dsp) (ram pcm sheet old rest : List ℕ) → length old ≡ n * 36
@@ -79,12 +59,9 @@ pub ticks-batch : (w : Work) (n : ℕ) (d : Dsp) (ram pcm sheet old rest : List 
     ≡ (let b = ticksOf w n (benchOf d ram old) in record { parts = b .parts; ram = b .ram; pcm = pcm ++ b .pcm; sheet = sheet ++ b .sheet; old = rest })
 ticks-batch w n d ram pcm sheet old rest h =
     let b = benchOf d ram old in
-    let f = ticksOf w n b in
     let o = old-left w n b in
-    let z = none-left (f .old) (omega (arith, o, h)) in
-    ap (ticksOf w n) (λ i. record { parts = b .parts; ram = ram; pcm = sym (append-nil pcm) i; sheet = sym (append-nil sheet) i; old = old ++ rest })
-    ∙ ticks-behind w n b pcm sheet rest (omega (arith, h))
-    ∙ (λ i. record { parts = f .parts; ram = f .ram; pcm = pcm ++ f .pcm; sheet = sheet ++ f .sheet; old = z i ++ rest })
+    let z = drop-of-length-le (ticksOf w n b .old) {i = 0} (omega arith) in
+    rw (append-nil pcm, append-nil sheet, z) at (ticks-behind w n b pcm sheet rest (omega arith))
 
 -- ---- the entries
 
@@ -97,4 +74,4 @@ pub written : (i x : ℕ) (d : Dsp) → i < 128 → Fit d → writeOf i x d ≡ 
 unfolding writeOf
 written i x d l f =
     let m : i % 128 ≡ i = omega arith in
-    rw (facts-fit d f) (λ k. record { refusal = 0; dsp = writeAt (m k) x d })
+    rw (facts-fit d f, m)

@@ -1,6 +1,6 @@
 -- Laws of RAM addresses, and of a block that is decoded nibble by nibble into a slice.
-use mathlib.Core.Path.{_≡_, refl, sym, ap, _∙_}
-use mathlib.Core.List.{List, [], _∷_, _++_}
+use mathlib.Core.Path.{_≡_, refl}
+use mathlib.Core.List.{List}
 use Prim.Native.Nat.{ℕ, suc, _+_, _*_, _/_, _%_, _<_}
 use native.Mathlib.Numerals.{add-one}
 use native.Mathlib.Omega.{arith}
@@ -45,14 +45,9 @@ module _ (ram : List ℕ) (a : ℕ) (p1 p2 : ℤ) where
       → s ≡ sampleOf (byteAt ram a) (nibbleAt ram a k) n1 n2 → UpTo (suc k) (set samples k s) s n1
   unfolding newest listed
   one-more k samples n1 n2 s l u e =
-      let l′ : k < length samples = omega (arith, u .sized) in
-      let d : s ≡ sample k = e ∙ (λ i. sampleOf (byteAt ram a) (nibbleAt ram a k) (u .first i) (u .second i)) in
-      record {
-        sized = length-set samples k s ∙ u .sized;
-        front = take-suc-set samples k s l′ ∙ (λ i. u .front i ++ (d i ∷ []));
-        first = d;
-        second = u .first;
-      }
+      let l′ : k < length samples = omega arith in
+      let d : s ≡ sample k = rw (e, u .first, u .second) in
+      record { sized = simp length-set (u .sized); front = rw (take-suc-set samples k s l′, u .front, d); first = d; second = u .first }
 
   nibble-high : (i : ℕ) → nibbleAt ram a (i * 2) ≡ byteAt ram (a + (1 + i)) / 16
   unfolding nibbleAt
@@ -76,23 +71,12 @@ module _ (ram : List ℕ) (a : ℕ) (p1 p2 : ℤ) where
   two-more i header byte samples n1 n2 s₀ s₁ l eh eb u e₀ e₁ =
       let z : a + 0 ≡ a = omega arith in
       let n : (i + 1) * 2 ≡ suc (suc (i * 2)) = omega arith in
-      let h = eh ∙ ap (byteAt ram) z in
-      let d₀ = e₀ ∙ (λ j. sampleOf (h j) ((ap (λ (x : ℕ). x / 16) eb ∙ sym (nibble-high i)) j) n1 n2) in
-      let d₁ = e₁ ∙ (λ j. sampleOf (h j) ((ap (λ (x : ℕ). x % 16) eb ∙ sym (nibble-low i)) j) s₀ n1) in
-      let v = one-more (i * 2) samples n1 n2 s₀ (omega arith) u d₀ in
-      rw (n, add-one) (one-more (suc (i * 2)) (set samples (i * 2) s₀) s₀ n1 s₁ (omega arith) v d₁)
+      let v = one-more (i * 2) samples n1 n2 s₀ (omega arith) u (rw (e₀, eh, z, eb, nibble-high i)) in
+      rw (n, add-one) (one-more (suc (i * 2)) (set samples (i * 2) s₀) s₀ n1 s₁ (omega arith) v (rw (e₁, eh, z, eb, nibble-low i)))
 
   pub whole : (k : ℕ) (samples : List ℤ) (n1 n2 : ℤ) (header : ℕ) → k ≡ 16 → header ≡ byteAt ram (a + 0) → UpTo k samples n1 n2
       → _≡_ {A = DecodedBlock} (record { samples = samples; prev1 = n1; prev2 = n2; end = endOf header; loops = loopOf header }) (decodeBlock ram a p1 p2)
   unfolding decodeBlock
   whole k samples n1 n2 header e eh u =
       let z : a + 0 ≡ a = omega arith in
-      let h = eh ∙ ap (byteAt ram) z in
-      let t = take-all k samples (omega (arith, u .sized)) in
-      λ i. record {
-        samples = (sym t ∙ u .front ∙ ap (λ (j : ℕ). listed sample j) e) i;
-        prev1 = (u .first ∙ ap (λ (j : ℕ). newest ram a p1 p2 j .prev1) e) i;
-        prev2 = (u .second ∙ ap (λ (j : ℕ). newest ram a p1 p2 j .prev2) e) i;
-        end = endOf (h i);
-        loops = loopOf (h i);
-      }
+      rw (eh, z, u .first, u .second, ← take-all k samples (omega arith), u .front, e)

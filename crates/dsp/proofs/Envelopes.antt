@@ -7,17 +7,16 @@ use Rattle.numbers.specs.Choice.{_≤?_, _=?_}
 use Rattle.numbers.specs.Bits.{bit}
 use Rattle.numbers.proofs.Choice.{tested, chosen}
 use Rattle.sound.specs.Clock.{periodOf}
-use Rattle.sound.specs.Envelope.{lowered, gained}
+use Rattle.sound.specs.Envelope.{lowered}
 use Rattle.sound.proofs.Bounds.{period-le, lowered-le, gained-le, shifted-le}
 use Rattle.dsp.specs.Clock.{fires, countedOn}
 use Rattle.dsp.specs.Noise.{Noise, noiseTick}
-use Rattle.dsp.specs.With.{withState}
 use Rattle.dsp.specs.Fit.{FitAdsr}
-use Rattle.dsp.specs.Envelope.{counted, levelled, timed, risen, settled, fallenTo, faded, ramped, gains, attackTick, decayTick, sustainTick, releaseTick, gainTick, phaseTick, envelopeTick}
+use Rattle.dsp.specs.Envelope.{counted, timed, risen, settled, fallenTo, faded, ramped, gains, attackTick, decayTick, sustainTick, releaseTick, gainTick, phaseTick, envelopeTick}
 use Rattle.dsp.specs.declared.adsr.EnvelopePhase.{EnvelopePhase}
 use Rattle.dsp.specs.declared.adsr.EnvelopePhase.the-variants.{Attack, Decay, Sustain, Release, Off}
 use Rattle.dsp.specs.declared.adsr.Adsr.{Adsr}
-use Rattle.dsp.proofs.Fits.{target-most}
+use Rattle.dsp.proofs.Fits.{most-of}
 
 -- ---- the clock
 
@@ -31,58 +30,47 @@ counter-kept c n h =
 
 -- ---- the envelope: its settings stay
 
-state-fit : (a : Adsr) (level : ℕ) (phase : EnvelopePhase) (counter : ℕ) → level ≤ 0x800 → counter ≤ 2047 → FitAdsr a → FitAdsr (withState a level phase counter)
-state-fit a level phase counter l c h = (l, (c, h .1 .1))
-
-levelled-fit : (a : Adsr) (l : ℕ) → FitAdsr a → l ≤ 0x800 → FitAdsr (levelled a l)
-levelled-fit a l h k = (k, h .1)
-
 -- a step that keeps fit envelopes fit does so under the clock
 timed-fit : (n : ℕ) (step : Adsr → Adsr) (a : Adsr) → ((b : Adsr) → FitAdsr b → FitAdsr (step b)) → FitAdsr a → FitAdsr (timed n step a)
 timed-fit n step a k h =
     let b = counted a (countedOn (a .«tick_counter») n) in
-    let c = state-fit a _ (a .«envelope_phase») _ (h .0) (counter-kept (a .«tick_counter») n (h .1 .0)) h in
+    let c : FitAdsr b = (h .0, (counter-kept (a .«tick_counter») n (h .1 .0), h .1 .1)) in
     chosen FitAdsr (fires (a .«tick_counter») n) (k b c) c
 
 risen-fit : (by : ℕ) (a : Adsr) → FitAdsr a → FitAdsr (risen by a)
 unfolding risen
 risen-fit by a h =
-    tested FitAdsr (0x7FF ≤? a .«envelope_level» + by) (λ e. state-fit a 0x7FF Decay 0 (omega arith) (omega arith) h)
-    (λ e. let l : a .«envelope_level» + by < 0x7FF = leb-false _ _ e in levelled-fit a (a .«envelope_level» + by) h (omega arith))
+    tested FitAdsr (0x7FF ≤? a .«envelope_level» + by) (λ e. (omega arith, (omega arith, h .1 .1)))
+    (λ e. let l : a .«envelope_level» + by < 0x7FF = leb-false _ _ e in (omega arith, h .1))
 
 settled-fit : (target : ℕ) → target ≤ 0x800 → (a : Adsr) → FitAdsr a → FitAdsr (settled target a)
 unfolding settled
 settled-fit target t a h =
     let l = lowered-le (a .«envelope_level») in
-    let k = h .0 in
-    chosen FitAdsr (lowered (a .«envelope_level») ≤? target) (state-fit a target Sustain 0 t (omega arith) h) (levelled-fit a (lowered (a .«envelope_level»)) h (omega arith))
+    chosen FitAdsr (lowered (a .«envelope_level») ≤? target) (t, (omega arith, h .1 .1)) (omega arith, h .1)
 
 fallen-fit : (l : ℕ) (a : Adsr) → l ≤ 0x800 → FitAdsr a → FitAdsr (fallenTo l a)
 unfolding fallenTo
-fallen-fit l a k h = chosen FitAdsr (l =? 0) (state-fit a 0 Off _ (omega arith) (h .1 .0) h) (levelled-fit a l h k)
+fallen-fit l a k h = chosen FitAdsr (l =? 0) (omega arith, h .1) (k, h .1)
 
 faded-fit : (a : Adsr) → FitAdsr a → FitAdsr (faded a)
-faded-fit a h = let l = lowered-le (a .«envelope_level») in let k = h .0 in fallen-fit (lowered (a .«envelope_level»)) a (omega arith) h
-
-ramped-fit : (m : ℕ) (a : Adsr) → FitAdsr a → FitAdsr (ramped m a)
-ramped-fit m a h = levelled-fit a (gained m (a .«envelope_level»)) h (gained-le m (a .«envelope_level») (h .0))
+faded-fit a h = let l = lowered-le (a .«envelope_level») in fallen-fit (lowered (a .«envelope_level»)) a (omega arith) h
 
 gain-fit : (a : Adsr) → FitAdsr a → FitAdsr (gainTick a)
 unfolding gainTick
 gain-fit a h =
     let m = a .«gain_param» / 32 % 4 in
-    chosen FitAdsr (bit (a .«gain_param») 7) (timed-fit (a .«gain_param» % 32) (ramped m) a (ramped-fit m) h)
-    (levelled-fit a (16 * (a .«gain_param» % 128)) h (omega arith))
+    chosen FitAdsr (bit (a .«gain_param») 7) (timed-fit (a .«gain_param» % 32) (ramped m) a (λ b k. (gained-le m (b .«envelope_level») (k .0), k .1)) h)
+    (omega arith, h .1)
 
 phase-fit : (p : EnvelopePhase) (a : Adsr) → FitAdsr a → FitAdsr (phaseTick p a)
 unfolding phaseTick attackTick decayTick sustainTick releaseTick
 phase-fit Attack a h = chosen FitAdsr (a .«attack_rate» =? 15) (risen-fit 1024 a h) (timed-fit (2 * a .«attack_rate» + 1) (risen 32) a (risen-fit 32) h)
 phase-fit Decay a h =
     let target = (a .«sustain_level» + 1) * 0x100 in
-    let t = target-most a h in
     timed-fit (2 * a .«decay_rate» + 16) (settled target) a (settled-fit target (omega arith)) h
 phase-fit Sustain a h = timed-fit (a .«sustain_rate») faded a faded-fit h
-phase-fit Release a h = let l = h .0 in fallen-fit (a .«envelope_level» - 8) a (omega arith) h
+phase-fit Release a h = fallen-fit (a .«envelope_level» - 8) a (omega arith) h
 phase-fit Off a h = h
 
 pub fit-kept-envelope : (a : Adsr) → FitAdsr a → FitAdsr (envelopeTick a)
@@ -94,4 +82,4 @@ fit-kept-envelope a h = chosen FitAdsr (gains a) (gain-fit a h) (phase-fit (a .�
 pub fit-kept-noise : (flg : ℕ) (n : Noise) → n .lfsr ≤ 0x7FFF → n .counter ≤ 2047 → (noiseTick flg n .lfsr ≤ 0x7FFF) × (noiseTick flg n .counter ≤ 2047)
 unfolding noiseTick
 fit-kept-noise flg n l c =
-    (chosen (λ (r : ℕ). r ≤ 0x7FFF) (fires (n .counter) (flg % 32)) (shifted-le (n .lfsr) l) l, counter-kept (n .counter) (flg % 32) c)
+    (most-of 0x7FFF (fires (n .counter) (flg % 32)) (shifted-le (n .lfsr) l) l, counter-kept (n .counter) (flg % 32) c)

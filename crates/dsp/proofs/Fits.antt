@@ -6,7 +6,7 @@ use mathlib.Core.Path.{_≡_, refl}
 use Prim.Native.Nat.{ℕ, _/_, _%_, _≤_, _<_}
 use native.Mathlib.Omega.{arith}
 use lib.ListN.{getD, set}
-use Rattle.numbers.specs.Choice.{_<?_, _=?_}
+use Rattle.numbers.specs.Choice.{if_then_else_, _<?_, _=?_}
 use Rattle.numbers.specs.Listed.{all}
 use Rattle.numbers.proofs.Choice.{chosen}
 use Rattle.numbers.proofs.Turns.{set-keeps}
@@ -16,7 +16,6 @@ use Rattle.dsp.specs.PowerOn.{newDsp}
 use Rattle.dsp.specs.Fit.{Clause, _at-most_, _below_, _is_, _multiple-of_, _or_, adsrRule, brrRule, voiceRule, delayRule, globalsRule, test, meets, fit, Fact, Facts, FitAdsr, FitBrr, FitVoice, FitGlobals, Fit}
 use Rattle.dsp.specs.Keys.{silenced}
 use Rattle.dsp.specs.Registers.{writeVoice, resets, globalsAfter, writeParts, writeAt}
-use Rattle.dsp.specs.declared.adsr.Adsr.{Adsr}
 use Rattle.dsp.specs.declared.voice.Voice.{Voice}
 use Rattle.dsp.specs.declared.registers.Dsp.{Dsp}
 use Rattle.dsp.proofs.Tests.{Decides, le, lt, eq, restated, _and_, _otherwise_}
@@ -48,39 +47,8 @@ facts-second : (xs ys : List Clause) → Facts (xs ++ ys) → Facts ys
 facts-second [] ys h = h
 facts-second (x ∷ xs) ys h = facts-second xs ys (h .1)
 
--- ---- facts by their names
-
-module _ (a : Adsr) (h : FitAdsr a) where
-  pub attack-most : a .«attack_rate» ≤ 15
-  attack-most = h .1 .1 .0
-
-  pub decay-most : a .«decay_rate» ≤ 7
-  decay-most = h .1 .1 .1 .0
-
-  pub target-most : a .«sustain_level» ≤ 7
-  target-most = h .1 .1 .1 .1 .0
-
-  pub sustain-most : a .«sustain_rate» ≤ 31
-  sustain-most = h .1 .1 .1 .1 .1 .0
-
-module _ (g : Globals) (h : FitGlobals g) where
-  pub delay-most : g .edl ≤ 15
-  delay-most = h .1 .1 .0
-
-  pub pmon-even : g .pmon % 2 ≡ 0
-  pmon-even = h .1 .1 .1 .0
-
-  pub length-pages : g .«echo_len» % 2048 ≡ 0
-  length-pages = h .1 .1 .1 .1 .0
-
-  pub length-most : g .«echo_len» ≤ 30720
-  length-most = h .1 .1 .1 .1 .1 .0
-
-  pub pointer-pairs : g .«echo_ptr» % 4 ≡ 0
-  pointer-pairs = h .1 .1 .1 .1 .1 .1 .0
-
-  pub pointer-within : (g .«echo_ptr» ≡ 0) ⊎ (g .«echo_ptr» < g .«echo_len»)
-  pointer-within = h .1 .1 .1 .1 .1 .1 .1 .0
+pub pointer-within : (g : Globals) → FitGlobals g → (g .«echo_ptr» ≡ 0) ⊎ (g .«echo_ptr» < g .«echo_len»)
+pointer-within g h = h .1 .1 .1 .1 .1 .1 .1 .0
 
 -- ---- the facts of a voice
 
@@ -133,25 +101,23 @@ new-fit = refl
 
 -- ---- a register write
 
+-- whichever is taken
+pub most-of : (m : ℕ) (b : Bool) {x y : ℕ} → x ≤ m → y ≤ m → (if b then x else y) ≤ m
+most-of m b = chosen (λ (n : ℕ). n ≤ m) b
+
 write-fit : (i x : ℕ) (v : Voice) → x < 256 → FitVoice v → FitVoice (writeVoice i x v)
 write-fit i x v l h =
-    let b = v .adsr in
-    let a = adsr-fit v h in
-    let p = h .0 in
     let w = writeVoice i x v in
-    let pitch : w .pitch ≤ 0x3FFF = chosen (λ (n : ℕ). n ≤ 0x3FFF) (i =? 2) (omega arith) (chosen (λ (n : ℕ). n ≤ 0x3FFF) (i =? 3) (omega arith) p) in
-    let attack : w .adsr .«attack_rate» ≤ 15 = chosen (λ (n : ℕ). n ≤ 15) (i =? 5) (omega arith) (attack-most b a) in
-    let decay : w .adsr .«decay_rate» ≤ 7 = chosen (λ (n : ℕ). n ≤ 7) (i =? 5) (omega arith) (decay-most b a) in
-    let target : w .adsr .«sustain_level» ≤ 7 = chosen (λ (n : ℕ). n ≤ 7) (i =? 6) (omega arith) (target-most b a) in
-    let sustain : w .adsr .«sustain_rate» ≤ 31 = chosen (λ (n : ℕ). n ≤ 31) (i =? 6) (omega arith) (sustain-most b a) in
-    voice-fit w pitch (h .1 .0) (a .0, (a .1 .0, (attack, (decay, (target, (sustain, tt)))))) (brr-fit v h)
+    let attack : w .adsr .«attack_rate» ≤ 15 = most-of 15 (i =? 5) (omega arith) (omega arith) in
+    let decay : w .adsr .«decay_rate» ≤ 7 = most-of 7 (i =? 5) (omega arith) (omega arith) in
+    let target : w .adsr .«sustain_level» ≤ 7 = most-of 7 (i =? 6) (omega arith) (omega arith) in
+    let sustain : w .adsr .«sustain_rate» ≤ 31 = most-of 31 (i =? 6) (omega arith) (omega arith) in
+    voice-fit w (most-of 0x3FFF (i =? 2) (omega arith) (most-of 0x3FFF (i =? 3) (omega arith) (h .0))) (h .1 .0) (omega arith) (brr-fit v h)
 
 globals-write-fit : (i x : ℕ) (g : Globals) → FitGlobals g → FitGlobals (globalsAfter i x g)
 globals-write-fit i x g h =
-    let k = globalsAfter i x g in
-    let delay : k .edl ≤ 15 = chosen (λ (n : ℕ). n ≤ 15) (i =? 0x7D) (omega arith) (delay-most g h) in
-    let even : k .pmon % 2 ≡ 0 = chosen (λ (n : ℕ). n % 2 ≡ 0) (i =? 0x2D) (omega arith) (pmon-even g h) in
-    (h .0, (h .1 .0, (delay, (even, h .1 .1 .1 .1))))
+    let even : globalsAfter i x g .pmon % 2 ≡ 0 = chosen (λ (n : ℕ). n % 2 ≡ 0) (i =? 0x2D) (omega arith) (omega arith) in
+    (h .0, (h .1 .0, (most-of 15 (i =? 0x7D) (omega arith) (omega arith), (even, h .1 .1 .1 .1))))
 
 abbrev pub AllFit : List Voice → Type 0
 AllFit vs = (n : ℕ) → FitVoice (getD vs n noVoice)

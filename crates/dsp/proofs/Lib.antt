@@ -1,5 +1,4 @@
 pub mod Rules
-pub mod Clocks
 pub mod Blocks
 pub mod Envelopes
 pub mod Pitch
@@ -11,7 +10,6 @@ pub mod Writes
 pub mod Tests
 pub mod Fits
 pub mod Lanes
-pub mod Taking
 pub mod Moves
 pub mod Ticks
 pub mod Drives

@@ -1,5 +1,5 @@
 -- The modulated pitch is never negative, and at most twice the base; the position that it moves never goes back, and passes at most seven samples.
-use mathlib.Core.Path.{_≡_, refl, sym, subst, _∙_}
+use mathlib.Core.Path.{_≡_, refl}
 use Prim.Native.Nat.{ℕ, zero, suc, _+_, _*_, _-_, _/_, _%_, _≤_, _<_}
 use native.Mathlib.Nat.{mul-le-mul-right}
 use native.Mathlib.Omega.{arith}
@@ -34,10 +34,10 @@ pitch-nat b (negsuc a) f = lowered b (suc (a / 32) * b) (mul-le-mul-right b (ome
 
 -- the cast of such a number, and its bound
 pub cast-nat : {m : ℕ} {z : ℤ} → IsNat m z → m < 4294967296 → T (nonNeg z) × Fits w32 (natAbs z)
-cast-nat {m} {z} k l = let h = k .le in subst (λ (y : ℤ). T (nonNeg y) × Fits w32 (natAbs y)) (sym (k .is)) (tt, record { fits = omega arith })
+cast-nat {m} {z} k l = let h = k .le in rw (k .is) (tt, record { fits = omega arith })
 
 pub nat-le : {m : ℕ} {z : ℤ} → IsNat m z → natAbs z ≤ m
-nat-le {m} {z} k = subst (λ (y : ℤ). natAbs y ≤ m) (sym (k .is)) (k .le)
+nat-le {m} {z} k = rw (k .is) (k .le)
 
 -- what the code computes at 32 bits
 abbrev pub machine : ℕ → ℤ → ℤ
@@ -48,7 +48,7 @@ pub machine-is : (b : ℕ) (x : ℤ) → Fits w16 b → mag x < 32768 → machin
 machine-is b x f h = reads (search (quotes, q-unsigned, q-elem16) depth 20) tt
 
 pub machine-nat : (b : ℕ) (x : ℤ) → Fits w16 b → mag x < 32768 → IsNat (2 * b) (machine b x)
-machine-nat b x f h = let k = pitch-nat b x h in record { n = k .n; is = machine-is b x f h ∙ k .is; le = k .le }
+machine-nat b x f h = let k = pitch-nat b x h in rw (machine-is b x f h) k
 
 -- ---- the position within a tick
 

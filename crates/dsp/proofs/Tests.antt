@@ -1,7 +1,7 @@
 -- A test that is computed, and the fact that it decides: each implies the other.
-use mathlib.Core.Bool.{Bool, true, false, _&&_, _||_}
+use mathlib.Core.Bool.{Bool, true, false, _&&_, _||_, or-true}
 use mathlib.Core.Logic.{_⊎_, inl, inr, ⊎-elim}
-use mathlib.Core.Path.{_≡_, refl}
+use mathlib.Core.Path.{_≡_}
 use Prim.Native.Nat.{ℕ, _≤_, _<_}
 use borrow.Author.Tests.{leb-true, ltb-true, eqb-true, le-leb, lt-ltb, eq-eqb}
 use Rattle.numbers.specs.Choice.{_≤?_, _<?_, _=?_}
@@ -24,23 +24,16 @@ eq m n = record { sound = eqb-true m n; holds = eq-eqb m n }
 pub restated : {b : Bool} {P Q : Type 0} → Decides b P → (P → Q) → (Q → P) → Decides b Q
 restated t f g = record { sound = λ e. f (t .sound e); holds = λ q. t .holds (g q) }
 
-both-true : (a b : Bool) → a ≡ true → b ≡ true → (a && b) ≡ true
-both-true a b p q = rw (p, q)
-
 either : (a b : Bool) → (a || b) ≡ true → (a ≡ true) ⊎ (b ≡ true)
 either true b h = inl h
 either false b h = inr h
-
-or-true : (a b : Bool) → b ≡ true → (a || b) ≡ true
-or-true true b q = refl
-or-true false b q = q
 
 infixl 35 _and_
 pub _and_ : {a b : Bool} {P Q : Type 0} → Decides a P → Decides b Q → Decides (a && b) (P × Q)
 _and_ {a} {b} s t =
     record {
       sound = λ h. (s .sound (and-both a b h .0), t .sound (and-both a b h .1));
-      holds = λ h. both-true a b (s .holds (h .0)) (t .holds (h .1));
+      holds = λ h. rw (s .holds (h .0)) (t .holds (h .1));
     }
 
 infixl 30 _otherwise_
@@ -48,5 +41,5 @@ pub _otherwise_ : {a b : Bool} {P Q : Type 0} → Decides a P → Decides b Q �
 _otherwise_ {a} {b} s t =
     record {
       sound = λ h. ⊎-elim (λ e. inl (s .sound e)) (λ e. inr (t .sound e)) (either a b h);
-      holds = λ h. ⊎-elim (λ p. rw (s .holds p)) (λ q. or-true a b (t .holds q)) h;
+      holds = λ h. ⊎-elim (λ p. rw (s .holds p)) (λ q. rw (t .holds q) (or-true a)) h;
     }

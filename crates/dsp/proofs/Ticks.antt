@@ -2,23 +2,22 @@
 use mathlib.Core.Bool.{Bool}
 use mathlib.Core.List.{List, [], _∷_}
 use mathlib.Core.Path.{_≡_, refl, _∙_}
-use Prim.Native.Nat.{ℕ, zero, suc, _+_, _/_, _%_, _≤_, _<_}
+use Prim.Native.Nat.{ℕ, zero, suc, _+_, _%_, _≤_, _<_}
 use native.Mathlib.Omega.{arith}
 use lib.IntN.{ℤ}
 use lib.ListN.{getD, length, length-set, length-map}
-use Rattle.numbers.specs.Choice.{if_then_else_, _<?_}
+use Rattle.numbers.specs.Choice.{_<?_}
 use Rattle.numbers.proofs.Choice.{chosen}
 use Rattle.numbers.specs.Bits.{bit}
 use Rattle.numbers.specs.Listed.{turns}
 use Rattle.dsp.specs.Machine.{noVoice, apart, together, Globals}
 use Rattle.dsp.specs.Fit.{delayRule, Facts, FitVoice, FitGlobals, Fit}
-use Rattle.dsp.specs.Keys.{silenced}
 use Rattle.dsp.specs.Ram.{storedFrom}
 use Rattle.dsp.specs.Registers.{resets, writeParts, writeAt}
 use Rattle.dsp.specs.Mix.{Stereo}
 use Rattle.dsp.specs.Sheet.{pairBytes, laneAt}
 use Rattle.dsp.specs.Echo.{echoBase, EchoLane, echoTick, echoWritten, echoFrom, echoLane}
-use Rattle.dsp.specs.Lane.{Cell, ownCell, shownCell, putBytes, turned, Shared}
+use Rattle.dsp.specs.Lane.{putBytes, turned, Shared}
 use Rattle.dsp.specs.Tick.{Round, turn, voicesTick, globalsTick, sharedOf, mixed, tickOf, startOf}
 use Rattle.dsp.specs.Ticks.{Bench, onward, benchTick, benchWrite, ticksOf}
 use Rattle.dsp.specs.declared.voice.Voice.{Voice}
@@ -40,29 +39,21 @@ pub record RoundFit (r : Round) : Type 0 where
   pub voices : (n : ℕ) → FitVoice (getD (r .voices) n noVoice)
   pub delays : (n : ℕ) → Facts (delayRule (getD (r .delays) n 0))
 
-put-sized : (j envx : ℕ) (out : ℤ) (endx : Bool) (bytes : List ℕ) → length (putBytes j envx out endx bytes) ≡ length bytes
-unfolding putBytes
-put-sized j envx out endx bytes = simp length-set
+module _ (mask : ℕ) (old : List ℕ) (c : Shared) (ram : List ℕ) where
+  pub fit-kept-turn : (j : ℕ) (r : Round) → j < 8 → RoundFit r → RoundFit (turn mask old c ram j r)
+  unfolding turn turned putBytes
+  fit-kept-turn j r l h =
+      let k = fit-kept-either (bit mask j) c ram j (r .sums .prev) _ _ (r .bytes) (laneAt j old) (h .voices j) (h .delays j .0) in
+      record {
+        bytes = simp length-set (h .bytes);
+        count = simp length-set (h .count);
+        waits = simp length-set (h .waits);
+        voices = λ n. set-keeps FitVoice noVoice (r .voices) j _ (k .voice) n (h .voices n);
+        delays = λ n. set-keeps (λ (e : ℕ). Facts (delayRule e)) 0 (r .delays) j _ (k .delay, tt) n (h .delays n);
+      }
 
-pub fit-kept-turn : (mask : ℕ) (old : List ℕ) (c : Shared) (ram : List ℕ) (j : ℕ) (r : Round) → j < 8 → RoundFit r → RoundFit (turn mask old c ram j r)
-unfolding turn turned
-fit-kept-turn mask old c ram j r l h =
-    let v = getD (r .voices) j noVoice in
-    let d = getD (r .delays) j 0 in
-    let b = r .bytes in
-    let w = bit mask j in
-    let x : Cell = if w then ownCell c ram j (r .sums .prev) v d b else shownCell (laneAt j old) v d in
-    let k = fit-kept-either w c ram j (r .sums .prev) v d b (laneAt j old) (h .voices j) (h .delays j .0) in
-    record {
-      bytes = put-sized j (x .envx) (x .out) (x .endx) b ∙ h .bytes;
-      count = length-set (r .voices) j (x .voice) ∙ h .count;
-      waits = length-set (r .delays) j (x .delay) ∙ h .waits;
-      voices = λ n. set-keeps FitVoice noVoice (r .voices) j (x .voice) (k .voice) n (h .voices n);
-      delays = λ n. set-keeps (λ (e : ℕ). Facts (delayRule e)) 0 (r .delays) j (x .delay) (k .delay, tt) n (h .delays n);
-    }
-
-pub fit-kept-turns : (mask : ℕ) (old : List ℕ) (c : Shared) (ram : List ℕ) (n : ℕ) (r : Round) → n ≤ 8 → RoundFit r → RoundFit (turns (turn mask old c ram) n r)
-fit-kept-turns mask old c ram n r l h = turns-keep RoundFit (turn mask old c ram) 8 (λ j s m k. fit-kept-turn mask old c ram j s m k) n r l h
+  pub fit-kept-turns : (n : ℕ) (r : Round) → n ≤ 8 → RoundFit r → RoundFit (turns (turn mask old c ram) n r)
+  fit-kept-turns = turns-keep RoundFit (turn mask old c ram) 8 fit-kept-turn
 
 -- ---- the machine
 
@@ -104,11 +95,7 @@ pub glued : (w : Work) (b : Bench) (h : Globals) (c : Shared) (r : Round) (e : E
     → e ≡ echoLane (w .echo) h (b .parts .taps) (b .parts .left) (b .parts .right) (b .ram) (r .sums .input) (laneAt 8 (b .old))
     → onward b (mixed (b .parts .taps) r e) ≡ benchTick w b
 unfolding benchTick tickOf voicesTick
-glued w b h c r e eh ec er ee =
-    let p = b .parts in
-    let er′ = er ∙ (λ i. turns (turn (w .voices) (b .old) (ec i) (b .ram)) 8 (startOf p)) in
-    let ee′ = ee ∙ (λ i. echoLane (w .echo) (eh i) (p .taps) (p .left) (p .right) (b .ram) (er′ i .sums .input) (laneAt 8 (b .old))) in
-    λ i. onward b (mixed (p .taps) (er′ i) (ee′ i))
+glued w b h c r e eh ec er ee = rw (ee, er, eh, ec)
 
 pub fit-kept-bench : (w : Work) (b : Bench) → BenchFit b → BenchFit (benchTick w b)
 unfolding benchTick tickOf voicesTick
@@ -149,23 +136,19 @@ fit-kept-tick w d ram old lr lb lv ld h =
 
 -- ---- a register write between ticks
 
-abbrev Count8 : List Voice → Type 0
-Count8 l = length l ≡ 8
-
 pub fit-kept-bench-write : (i x : ℕ) (b : Bench) → i < 128 → x < 256 → BenchFit b → BenchFit (benchWrite i x b)
 unfolding writeParts writeAt
 fit-kept-bench-write i x b li lx h =
-    let p = b .parts in
-    let d = together p in
-    let f = fit-kept-write i x d li lx (bench-fit b h) in
+    let f = fit-kept-write i x (together (b .parts)) li lx (bench-fit b h) in
+    let Eight : List Voice → Type 0 = λ (l : List Voice). length l ≡ 8 in
     record {
       ram = h .ram;
       round =
           record {
             bytes = chosen (λ (l : List ℕ). length l ≡ 128) (resets i x) (simp length-set (h .round .bytes)) (simp length-set (h .round .bytes));
             count =
-                chosen Count8 (i % 16 <? 8) (length-set (p .voices) (i / 16) _ ∙ h .round .count)
-                (chosen Count8 (resets i x) (length-map (p .voices) silenced ∙ h .round .count) (h .round .count));
+                chosen Eight (i % 16 <? 8) (simp length-set (h .round .count))
+                (chosen Eight (resets i x) (simp length-map (h .round .count)) (h .round .count));
             waits = h .round .waits;
             voices = f .voices;
             delays = f .delays;

@@ -1,17 +1,16 @@
 -- A tick that works every lane: it does not see the sheet that it found, and its sample is what `render_audio_single` gives after it.
 use mathlib.Core.Bool.{true}
 use mathlib.Core.List.{List}
-use mathlib.Core.Path.{_≡_, refl, sym, ap, _∙_}
+use mathlib.Core.Path.{_≡_, refl, ap, _∙_}
 use Prim.Native.Nat.{ℕ, zero, suc, _≤_, _<_}
 use native.Mathlib.Omega.{arith}
 use borrow.Author.Count.{below-none, below-more}
-use lib.IntN.{ℤ}
 use lib.ListN.{getD, set, length}
 use Rattle.numbers.specs.Bits.{bit}
 use Rattle.numbers.specs.Listed.{turns}
 use Rattle.dsp.specs.Machine.{noVoice, Parts, globalsOf, apart, together}
 use Rattle.dsp.specs.Fit.{Fit}
-use Rattle.dsp.specs.Mix.{outputOf, silent, withVoice, withOutput, masterOf, renderOf, Stereo}
+use Rattle.dsp.specs.Mix.{silent, withOutput, masterOf, renderOf, Stereo}
 use Rattle.dsp.specs.Sheet.{pairBytes}
 use Rattle.dsp.specs.Echo.{echoLane}
 use Rattle.dsp.specs.Lane.{cellAfter, cellOf, ownCell, added, turned, Shared}
@@ -33,23 +32,13 @@ full =
     (below-more Has 6 (below-more Has 5 (below-more Has 4 (below-more Has 3 (below-more Has 2 (below-more Has 1 (below-more Has 0 (below-none Has) refl) refl) refl) refl) refl) refl) refl)
     refl
 
-turn-whole : (old found : List ℕ) (c : Shared) (ram : List ℕ) (j : ℕ) (r : Round) → j < 8 → turn 0xFF old c ram j r ≡ turn 0xFF found c ram j r
-unfolding turn turned
-turn-whole old found c ram j r l = rw (full j l)
-
 pub tick-whole : (old found : List ℕ) (p : Parts) (ram : List ℕ) → tickOf everything old p ram ≡ tickOf everything found p ram
-unfolding tickOf voicesTick echoLane
+unfolding tickOf voicesTick echoLane turn turned
 tick-whole old found p ram =
     let c = sharedOf (p .globals) (p .registers) in
-    ap (mixedFrom true old p ram) (turns-same (turn 0xFF old c ram) (turn 0xFF found c ram) 8 (turn-whole old found c ram) 8 (startOf p) (omega arith))
+    ap (mixedFrom true old p ram) (turns-same (turn 0xFF old c ram) (turn 0xFF found c ram) 8 (λ j r l. rw (full j l)) 8 (startOf p) (omega arith))
 
 -- ---- a tick is `step`, then `render_audio_single`
-
--- a cell's output is that of its voice
-out-is : (c : Shared) (ram : List ℕ) (j : ℕ) (prev : ℤ) (v : Voice) (delay : ℕ) (bytes : List ℕ)
-    → ownCell c ram j prev v delay bytes .out ≡ outputOf (ownCell c ram j prev v delay bytes .voice)
-unfolding ownCell cellOf cellAfter
-out-is c ram j prev v delay bytes = refl
 
 -- the voices before n are not changed by a store at n
 dry-before : (vs : List Voice) (y : Voice) (n : ℕ) → dryUpTo (set vs n y) n ≡ dryUpTo vs n
@@ -59,17 +48,13 @@ dry-before vs y n =
 -- after n voices the dry sum is that of the first n, as they now stand
 dry-after : (old : List ℕ) (c : Shared) (ram : List ℕ) (n : ℕ) (r : Round) → n ≤ 8 → RoundFit r → r .sums .dry ≡ silent
     → turns (turn 0xFF old c ram) n r .sums .dry ≡ dryUpTo (turns (turn 0xFF old c ram) n r .voices) n
-unfolding turns turn turned added
+unfolding turns turn turned added ownCell cellOf cellAfter
 dry-after old c ram zero r l f e = e
 dry-after old c ram (suc n) r l f e =
     let s = turns (turn 0xFF old c ram) n r in
     let g = fit-kept-turns 0xFF old c ram n r (omega arith) f in
-    let x = ownCell c ram n (s .sums .prev) (getD (s .voices) n noVoice) (getD (s .delays) n 0) (s .bytes) in
-    let y = x .voice in
-    let h = set-here noVoice (s .voices) n y (omega (arith, g .count)) in
-    rw (full n (omega arith))
-    ((λ i. withVoice (out-is c ram n (s .sums .prev) (getD (s .voices) n noVoice) (getD (s .delays) n 0) (s .bytes) i) (y .«left_vol») (y .«right_vol») ((dry-after old c ram n r (omega arith) f e ∙ sym (dry-before (s .voices) y n)) i))
-    ∙ ap (withOutput (dryUpTo (set (s .voices) n y) n)) (sym h))
+    let y = ownCell c ram n (s .sums .prev) (getD (s .voices) n noVoice) (getD (s .delays) n 0) (s .bytes) .voice in
+    rw (full n (omega arith), set-here noVoice (s .voices) n y (omega arith), dry-before (s .voices) y n, ← dry-after old c ram n r (omega arith) f e)
 
 -- the sample of a tick is the stereo sample of the record that it leaves
 pub tick-renders : (d : Dsp) (ram old : List ℕ) → length ram ≡ 0x10000 → length (d .registers) ≡ 128 → length (d .voices) ≡ 8 → length (d .«kon_delay») ≡ 8 → Fit d

@@ -52,12 +52,12 @@ endx-as-any i x = chosen (λ (y : ℕ). y ≡ x) (i =? 0x7C) refl refl
 
 -- ---- the three kinds of register
 
--- d with the byte stored, and with these voices and taps
-abbrev pub stored : ℕ → ℕ → List Voice → List ℤ → Dsp → Dsp
-stored i x voices taps d =
+-- d with these bytes, voices and taps
+abbrev pub changed : List ℕ → List Voice → List ℤ → Dsp → Dsp
+changed bytes voices taps d =
     together
     (record {
-      registers = set (d .registers) i x;
+      registers = bytes;
       voices = voices;
       delays = d .«kon_delay»;
       taps = taps;
@@ -65,6 +65,10 @@ stored i x voices taps d =
       right = d .«fir_history_r»;
       globals = globalsOf d;
     })
+
+-- with the byte stored
+abbrev pub stored : ℕ → ℕ → List Voice → List ℤ → Dsp → Dsp
+stored i x voices taps d = changed (set (d .registers) i x) voices taps d
 
 pub voice-write : (i x : ℕ) (d : Dsp) → i % 16 < 8
     → writeAt i x d ≡ stored i x (set (d .voices) (i / 16) (writeVoice (i % 16) x (getD (d .voices) (i / 16) noVoice))) (d .«fir_coeff») d
@@ -84,17 +88,7 @@ tap-write i x d h =
 
 -- RESET, on a record whose other numbers are written
 abbrev pub reset : Dsp → Dsp
-reset d =
-    together
-    (record {
-      registers = set (d .registers) 0x7C 0;
-      voices = map silenced (d .voices);
-      delays = d .«kon_delay»;
-      taps = d .«fir_coeff»;
-      left = d .«fir_history_l»;
-      right = d .«fir_history_r»;
-      globals = globalsOf d;
-    })
+reset d = changed (set (d .registers) 0x7C 0) (map silenced (d .voices)) (d .«fir_coeff») d
 
 abbrev pub globalsWritten : ℕ → ℕ → Dsp → Dsp
 globalsWritten i x d = withGlobals d (globalsAfter i x (globalsOf d))

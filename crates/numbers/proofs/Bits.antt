@@ -2,10 +2,10 @@
 -- machine's masks give it.
 use mathlib.Core.Bool.{Bool, true, false, not}
 use mathlib.Core.Logic.{_≢_}
-use mathlib.Core.Path.{_≡_, refl, sym, ap, _∙_}
+use mathlib.Core.Path.{_≡_, refl, sym, _∙_}
 use Prim.Native.Nat.{ℕ, zero, suc, _+_, _-_, _*_, _/_, _%_, _^_, _≤_, _<_}
 use native.Mathlib.Omega.{arith}
-use native.Mathlib.Nat.{le-trans, mod-le, mul-le-mul-right, mul-assoc, pow-suc, div-mul-le-self, mod-eq-of-lt}
+use native.Mathlib.Nat.{le-trans, mod-le, mul-le-mul-right, pow-suc, div-mul-le-self, mod-eq-of-lt}
 use native.Mathlib.Numerals.{one-add}
 use native.Mathlib.Decide.{ℕ-discrete, decLe}
 use borrow.Author.Tests.{eqb-true, eqb-false, eq-eqb, ne-eqb, le-leb, lt-leb, le-ltb, lt-ltb}
@@ -22,7 +22,7 @@ abbrev pub digit : ℕ → ℕ → ℕ
 digit x k = x / 2 ^ k % 2
 
 pub digit-half : (x k : ℕ) → digit (x / 2) k ≡ digit x (suc k)
-digit-half x k = ap (λ (n : ℕ). n % 2) (shr-shr x 1 k ∙ ap (λ (n : ℕ). x / 2 ^ n) (one-add k))
+digit-half x k = rw (shr-shr x 1 k, one-add k)
 
 digit-le : (x k : ℕ) → digit x k * 2 ^ k ≤ x
 digit-le x k = le-trans (mul-le-mul-right (2 ^ k) (mod-le (x / 2 ^ k) 2)) (div-mul-le-self x (2 ^ k))
@@ -31,9 +31,8 @@ digit-le x k = le-trans (mul-le-mul-right (2 ^ k) (mod-le (x / 2 ^ k) 2)) (div-m
 pub digits-ext : (w x y : ℕ) → x < 2 ^ w → y < 2 ^ w → ((k : ℕ) → k < w → digit x k ≡ digit y k) → x ≡ y
 digits-ext zero x y l m h = omega arith
 digits-ext (suc w) x y l m h =
-    let e = h 0 (omega arith) in
-    let f = digits-ext w (x / 2) (y / 2) (omega arith) (omega arith) (λ k n. digit-half x k ∙ h (suc k) (omega arith) ∙ sym (digit-half y k)) in
-    omega (arith, e, f)
+    let f = digits-ext w (x / 2) (y / 2) (omega arith) (omega arith) (λ k n. rw (digit-half x k, digit-half y k) (h (suc k) (omega arith))) in
+    omega (arith, h 0 (omega arith))
 
 same-digit : (d e : ℕ) → d < 2 → e < 2 → (d =? 1) ≡ (e =? 1) → d ≡ e
 same-digit d e l m h =
@@ -62,7 +61,7 @@ with-higher x n on =
     let d = digit (x / 2) n in
     let e : d ≡ digit x (suc n) = digit-half x n in
     let p : 2 ^ suc n ≡ 2 ^ n * 2 = pow-suc 2 n in
-    let m : d * 2 ^ suc n ≡ d * 2 ^ n * 2 = ap (λ (y : ℕ). d * y) p ∙ sym (mul-assoc d (2 ^ n) 2) in
+    let m : d * 2 ^ suc n ≡ d * 2 ^ n * 2 = rw p (omega arith) in
     let l : d * 2 ^ n ≤ x / 2 = digit-le (x / 2) n in
     rw (← e) (elim on [ true ↦ omega arith | false ↦ omega arith ])
 
@@ -70,11 +69,11 @@ pub with-digit : (x n k : ℕ) (on : Bool) → digit (withBit x n on) k ≡ (if 
 with-digit x zero zero on = rw (with-lowest x on) (omega (arith, one-digit on))
 with-digit x zero (suc k) on =
     let e : withBit x 0 on / 2 ≡ x / 2 = rw (with-lowest x on) (omega (arith, one-digit on)) in
-    sym (digit-half (withBit x 0 on) k) ∙ ap (λ (y : ℕ). digit y k) e ∙ digit-half x k ∙ rw (eqb·suc-zero k)
+    rw (← digit-half (withBit x 0 on) k, e, eqb·suc-zero k) (digit-half x k)
 with-digit x (suc n) zero on = rw (with-higher x n on, eqb·zero-suc n) (omega arith)
 with-digit x (suc n) (suc k) on =
     let e : withBit x (suc n) on / 2 ≡ withBit (x / 2) n on = rw (with-higher x n on) (omega arith) in
-    sym (digit-half (withBit x (suc n) on) k) ∙ ap (λ (y : ℕ). digit y k) e ∙ with-digit (x / 2) n k on ∙ rw (digit-half x k, eqb·suc-suc k n)
+    rw (← digit-half (withBit x (suc n) on) k, e, eqb·suc-suc k n, ← digit-half x k) (with-digit (x / 2) n k on)
 
 one-bit : (on : Bool) → ((if on then 1 else 0) =? 1) ≡ on
 one-bit true = refl
@@ -134,8 +133,8 @@ top-bit x l =
 
 pub top-clear : (x : ℕ) → x < 256 → not (bit x 7) ≡ (x <? 0x80)
 top-clear x l =
-    ap not (top-bit x l)
-    ∙ elim (decLe 0x80 x) [
+    rw (top-bit x l)
+    (elim (decLe 0x80 x) [
       | yes h ↦ rw (le-leb _ _ h) (sym (le-ltb x 0x80 h))
       | no h ↦ rw (lt-leb 0x80 x (omega arith)) (sym (lt-ltb x 0x80 (omega arith)))
-    ]
+    ])

@@ -26,7 +26,7 @@ pub clamp-law : Law1 clamp16Z clamp16Z (λ m. 0x7FFF) (λ m. true)
 clamp-law x m p t = (refl, clamp-within x .le)
 
 abbrev pub q-clamp16 : {a : ℤ} → Q a → Q (clamp16Z a)
-q-clamp16 p = q-1 clamp16Z clamp16Z (λ m. 0x7FFF) (λ m. true) clamp-law p
+q-clamp16 p = q-1 clamp16Z clamp16Z _ (λ m. true) clamp-law p
 
 -- for a caller: what clamp16, cut16 and cut4 ensure
 pub ruleset calls = (q-by, q-clamp16, q-cutZ, cuts)

@@ -1,8 +1,8 @@
 -- A left shift and a right shift by one count cut a number to the bits that are left.
-use mathlib.Core.Path.{_≡_, refl, sym, ap, _∙_, subst}
+use mathlib.Core.Path.{_≡_, refl, sym, ap, _∙_}
 use mathlib.Core.Bool.{Bool, true}
 use Prim.Native.Nat.{ℕ, zero, suc, _+_, _*_, _-_, _/_, _%_, _^_, _≤_, _<_}
-use native.Mathlib.Nat.{mul-lt-mul-of-pos-right, mul-le-mul-right, mul-div-cancel, mul-mod-left, add-mul, mod-lt, div-add-mod', mul-comm, div-lt-iff-lt-mul, add-zero, zero-mul, mul-zero}
+use native.Mathlib.Nat.{mul-lt-mul-of-pos-right, mul-le-mul-right, mul-div-cancel, mul-mod-left, add-mul, mod-lt, div-add-mod', mul-comm, div-lt-iff-lt-mul, add-zero}
 use native.Mathlib.Omega.{arith}
 use native.Mathlib.Decide.{decLt}
 use lib.Bits.{bitAnd, and-mask}
@@ -27,43 +27,39 @@ minus-is (suc n) h = ap negsuc (omega arith)
 -- h is half of what is left, and c the power that shifts
 module _ (h c : ℕ) (e : h * c ≡ 2147483648) (pc : 0 < c) (ph : 0 < h) where
   whole : (h + h) * c ≡ 4294967296
-  whole = omega (arith, add-mul h h c)
+  whole = omega arith
 
   back : (k j : ℕ) → k + suc j ≡ h + h → (4294967296 - suc (k * c)) / c ≡ j
   back k j p =
-      let s : k * c + suc j * c ≡ 4294967296 = sym (add-mul k (suc j) c) ∙ ap (λ (n : ℕ). n * c) p ∙ whole in
-      let d : suc j * c ≡ j * c + c = omega (arith, add-mul j 1 c) in
+      let s : (k + suc j) * c ≡ 4294967296 = rw p whole in
       let m : 4294967296 - suc (k * c) ≡ j * c + (c - 1) = omega arith in
-      ap (λ (n : ℕ). n / c) m ∙ digits-div j (omega arith)
+      rw m (digits-div j (omega arith))
 
   shifted : (k : ℕ) → k < h + h → Dec (k < h) → shrZ (toZ w32 (k * c)) c ≡ signedAt h k
   shifted k l (yes p) =
-      let q : k * c < 2147483648 = subst (λ (n : ℕ). k * c < n) e (mul-lt-mul-of-pos-right p pc) in
+      let q : k * c < 2147483648 = rw e at (mul-lt-mul-of-pos-right p pc) in
       rw (toZ-pos w32 (k * c) q, lt-ltb k h p) (ap pos (mul-div-cancel k pc))
   shifted k l (no p) =
       let g : h ≤ k = omega arith in
-      let q : 2147483648 ≤ k * c = subst (λ (n : ℕ). n ≤ k * c) e (mul-le-mul-right c g) in
+      let q : 2147483648 ≤ k * c = rw e at (mul-le-mul-right c g) in
       rw (toZ-high w32 (k * c) q, le-ltb k h g, minus-is (h + h - k) (omega arith)) (ap negsuc (back k (h + h - k - 1) (omega arith)))
 
   low-mod : (a : ℕ) → (a * c) % 4294967296 ≡ (a % (h + h)) * c
-  low-mod a =
-      ap (λ (n : ℕ). (a * c) % n) (sym whole) ∙ mod-mul (a * c) (omega arith) pc
-      ∙ (λ i. (mul-div-cancel a pc i % (h + h)) * c + mul-mod-left a c i) ∙ add-zero ((a % (h + h)) * c)
+  low-mod a = rw (← whole, mod-mul (a * c) {m = h + h} (omega arith) pc, mul-div-cancel a pc, mul-mod-left a c) (add-zero _)
 
   neg-mod : (n : ℕ) → n < 4294967296 → (4294967296 - suc n) % (h + h) ≡ h + h - suc (n % (h + h))
   neg-mod n l =
       let m = h + h in let q = n / m in let r = n % m in
       let rl : r < m = mod-lt n (omega arith) in
       let d : q * m + r ≡ n = div-add-mod' n m in
-      let ql : q < c = div-lt-iff-lt-mul {k = m} {x = n} {y = c} (omega arith) .1 (subst (λ (z : ℕ). n < z) (sym whole ∙ mul-comm m c) l) in
-      let s : (c - suc q) * m + suc q * m ≡ c * m = sym (add-mul (c - suc q) (suc q) m) ∙ ap (λ (z : ℕ). z * m) (omega arith) in
       let w : c * m ≡ 4294967296 = mul-comm c m ∙ whole in
-      let t : suc q * m ≡ q * m + m = omega (arith, add-mul q 1 m) in
+      let ql : q < c = div-lt-iff-lt-mul {k = m} {x = n} {y = c} (omega arith) .1 (omega arith) in
+      let s : (c - suc q) * m + suc q * m ≡ c * m = sym (add-mul (c - suc q) (suc q) m) ∙ ap (λ (z : ℕ). z * m) (omega arith) in
       ap (λ (z : ℕ). z % m) (omega arith) ∙ digits-mod (c - suc q) {m = m} {r = m - suc r} (omega arith)
 
   low : (x : ℤ) → SFits w32 x → (ofZ w32 x * c) % 4294967296 ≡ modZ x (h + h) * c
   low (pos n) f = low-mod n
-  low (negsuc n) f = let l : n < 2147483648 = f .sfits in low-mod (4294967296 - suc n) ∙ ap (λ (z : ℕ). z * c) (neg-mod n (omega arith))
+  low (negsuc n) f = rw (low-mod (4294967296 - suc n), neg-mod n (omega (arith, f .sfits)))
 
   mod-below : (x : ℤ) → modZ x (h + h) < h + h
   mod-below (pos n) = mod-lt n (omega arith)
@@ -94,8 +90,8 @@ abbrev pub divides : ℕ → Bool
 divides c = eqb (half c * c) 2147483648
 
 factor : (a b : ℕ) → a * b ≡ 2147483648 → (0 < a) × (0 < b)
-factor zero b e = absurd (omega (arith, zero-mul b))
-factor (suc a) zero e = absurd (omega (arith, mul-zero (suc a)))
+factor zero b e = absurd (omega arith)
+factor (suc a) zero e = absurd (omega arith)
 factor (suc a) (suc b) e = (omega arith, omega arith)
 
 -- `(x << k) >> k`, for the k whose power is c
@@ -107,7 +103,7 @@ shifts-law c t =
     cut-law (half c) c e (f .1) (f .0)
 
 abbrev pub q-cut : {x : ℤ} (c : ℕ) → T (divides c) → Q x → Q (shrZ (toZ w32 ((ofZ w32 x * c) % 4294967296)) c)
-q-cut c t p = q-1 (λ x. shrZ (toZ w32 ((ofZ w32 x * c) % 4294967296)) c) (cutZ (half c)) (λ m. half c - 1) (λ m. ltb m (2 ^ hbits w32)) (shifts-law c t) p
+q-cut c t p = q-1 (λ x. shrZ (toZ w32 ((ofZ w32 x * c) % 4294967296)) c) (cutZ (half c)) _ (λ m. ltb m (2 ^ hbits w32)) (shifts-law c t) p
 
 pub cutZ-any : (h : ℕ) → T (divides h) → Law1 (cutZ h) (cutZ h) (λ m. h - 1) (λ m. true)
 cutZ-any h t =
@@ -116,7 +112,7 @@ cutZ-any h t =
     cutZ-law h (half h) (mul-comm h (half h) ∙ e) (f .0) (f .1)
 
 abbrev pub q-cutZ : {a : ℤ} (h : ℕ) → T (divides h) → Q a → Q (cutZ h a)
-q-cutZ h t p = q-1 (cutZ h) (cutZ h) (λ m. h - 1) (λ m. true) (cutZ-any h t) p
+q-cutZ h t p = q-1 (cutZ h) (cutZ h) _ (λ m. true) (cutZ-any h t) p
 
 pub ruleset cuts = (q-cut, quotes)
 
@@ -124,7 +120,7 @@ pub ruleset cuts = (q-cut, quotes)
 
 low-mod-256 : (x : ℤ) → SFits w32 x → ofZ w32 x % 256 ≡ modZ x 256
 low-mod-256 (pos n) f = refl
-low-mod-256 (negsuc n) f = let h : n < 2147483648 = f .sfits in omega arith
+low-mod-256 (negsuc n) f = omega (arith, f .sfits)
 
 below-256 : (x : ℤ) → modZ x 256 ≤ 255
 below-256 (pos n) = omega arith
@@ -135,4 +131,4 @@ low-law x m p t =
     (ap (toZ w32) (and-mask (ofZ w32 x) 8 ∙ low-mod-256 x (within-fits w32 x m p t)) ∙ toZ-pos w32 (modZ x 256) (omega (arith, below-256 x)), below-256 x)
 
 abbrev pub q-low8 : {x : ℤ} → Q x → Q (toZ w32 (bitAnd (ofZ w32 x) 255))
-q-low8 p = q-1 (λ x. toZ w32 (bitAnd (ofZ w32 x) 255)) (λ x. pos (modZ x 256)) (λ m. 255) (λ m. ltb m (2 ^ hbits w32)) low-law p
+q-low8 p = q-1 (λ x. toZ w32 (bitAnd (ofZ w32 x) 255)) (λ x. pos (modZ x 256)) _ (λ m. ltb m (2 ^ hbits w32)) low-law p

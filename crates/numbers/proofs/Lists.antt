@@ -1,7 +1,7 @@
 -- Lists by index: a list that is mapped, tested, or without its first element.
 use mathlib.Core.Bool.{Bool, true, false, _&&_, and-true, and-assoc}
-use mathlib.Core.List.{List, [], _∷_, _++_, map}
-use mathlib.Core.Path.{_≡_, refl, sym, ap, _∙_}
+use mathlib.Core.List.{List, [], _∷_, map}
+use mathlib.Core.Path.{_≡_, refl}
 use Prim.Native.Nat.{ℕ, zero, suc, _≤_, _<_}
 use native.Mathlib.Omega.{arith}
 use lib.ListN.{getD, length, take, drop}
@@ -23,32 +23,34 @@ pub and-both : (a b : Bool) → (a && b) ≡ true → (a ≡ true) × (b ≡ tru
 and-both true b h = (refl, h)
 and-both false b h = (h, cc)
 
--- past the end stands d
-pub all-at : {A : Type 0} (t : A → Bool) (d : A) (xs : List A) → all t xs ≡ true → t d ≡ true → (n : ℕ) → t (getD xs n d) ≡ true
-unfolding all
-all-at t d [] e z n = z
-all-at t d (x ∷ xs) e z zero = and-both (t x) (all t xs) e .0
-all-at t d (x ∷ xs) e z (suc n) = all-at t d xs (and-both (t x) (all t xs) e .1) z n
+module _ {A : Type 0} (t : A → Bool) (d : A) where
+  -- past the end stands d
+  pub all-at : (xs : List A) → all t xs ≡ true → t d ≡ true → (n : ℕ) → t (getD xs n d) ≡ true
+  unfolding all
+  all-at [] e z n = z
+  all-at (x ∷ xs) e z zero = and-both _ _ e .0
+  all-at (x ∷ xs) e z (suc n) = all-at xs (and-both (t x) _ e .1) z n
 
-pub all-holds : {A : Type 0} (t : A → Bool) (d : A) (xs : List A) → ((n : ℕ) → n < length xs → t (getD xs n d) ≡ true) → all t xs ≡ true
-unfolding all
-all-holds t d [] h = refl
-all-holds t d (x ∷ xs) h = rw (h 0 (omega arith)) (all-holds t d xs (λ n l. h (suc n) (omega arith)))
+  pub all-holds : (xs : List A) → ((n : ℕ) → n < length xs → t (getD xs n d) ≡ true) → all t xs ≡ true
+  unfolding all
+  all-holds [] h = refl
+  all-holds (x ∷ xs) h = rw (h 0 (omega arith)) (all-holds xs (λ n l. h (suc n) (omega arith)))
 
--- one element more
-pub all-more : {A : Type 0} (t : A → Bool) (d : A) (xs : List A) (n : ℕ) → n < length xs → all t (take (suc n) xs) ≡ (all t (take n xs) && t (getD xs n d))
-unfolding all
-all-more t d [] n l = absurd (omega arith)
-all-more t d (x ∷ xs) zero l = and-true (t x)
-all-more t d (x ∷ xs) (suc n) l = ap (λ b. t x && b) (all-more t d xs n (omega arith)) ∙ sym (and-assoc (t x) (all t (take n xs)) (t (getD xs n d)))
+  -- one element more
+  pub all-more : (xs : List A) (n : ℕ) → n < length xs → all t (take (suc n) xs) ≡ (all t (take n xs) && t (getD xs n d))
+  unfolding all
+  all-more [] n l = absurd (omega arith)
+  all-more (x ∷ xs) zero l = and-true (t x)
+  all-more (x ∷ xs) (suc n) l = rw (all-more xs n (omega arith), and-assoc)
 
 -- ---- a list as what stands in it
 
-listed-take : {A : Type 0} (d : A) (xs : List A) (n : ℕ) → n ≤ length xs → listed (λ k. getD xs k d) n ≡ take n xs
-unfolding listed
-listed-take d xs zero l = refl
-listed-take {A} d xs (suc n) l = ap (λ (ys : List A). ys ++ (getD xs n d ∷ [])) (listed-take d xs n (omega arith)) ∙ sym (take-suc xs n d (omega arith))
+module _ {A : Type 0} (d : A) where
+  listed-take : (xs : List A) (n : ℕ) → n ≤ length xs → listed (λ k. getD xs k d) n ≡ take n xs
+  unfolding listed
+  listed-take xs zero l = refl
+  listed-take xs (suc n) l = rw (listed-take xs n (omega arith), take-suc xs n d)
 
-pub dropped-listed : {A : Type 0} (d : A) (h : List A) (n : ℕ) → length h ≡ suc n → drop 1 h ≡ listed (λ k. getD h (suc k) d) n
-dropped-listed d [] n e = absurd (omega arith)
-dropped-listed d (x ∷ xs) n e = sym (listed-take d xs n (omega arith) ∙ take-all n xs (omega arith))
+  pub dropped-listed : (h : List A) (n : ℕ) → length h ≡ suc n → drop 1 h ≡ listed (λ k. getD h (suc k) d) n
+  dropped-listed [] n e = absurd (omega arith)
+  dropped-listed (x ∷ xs) n e = rw (listed-take xs n (omega arith), take-all n xs (omega arith))

@@ -1,9 +1,9 @@
 -- The ranges and the read-backs of signed formulas, by computation.
 -- `Q z`: the machine's number z stands for `value`, of magnitude at most `bound`, where `ok` computes to true. `search quotes` builds it from z.
-use mathlib.Core.Path.{_≡_, refl, sym, ap, _∙_, subst}
+use mathlib.Core.Path.{_≡_, refl, ap, _∙_}
 use mathlib.Core.Bool.{Bool, true, false, cond, _&&_}
 use Prim.Native.Nat.{ℕ, zero, suc, _+_, _*_, _-_, _/_, _^_, _≤_, _<_}
-use native.Mathlib.Nat.{le-refl, le-trans, lt-of-le-of-lt, mul-le-mul, zero-mul, mul-add, div-zero, div-mul-le-self, le-div-iff-mul-le}
+use native.Mathlib.Nat.{le-refl, le-trans, lt-of-le-of-lt, mul-le-mul, div-zero, div-mul-le-self, le-div-iff-mul-le}
 use native.Mathlib.Omega.{arith}
 use lib.Dec.{T, ltb, ltb→lt, leb, leb→le}
 use lib.IntN.{ℤ, pos, negsuc, negℤ, natAbs, _+ℤ_, _-ℤ_, _*ℤ_}
@@ -37,24 +37,20 @@ mag-neg zero = le-refl 0
 mag-neg (suc n) = omega arith
 
 mag-mul : (x y : ℤ) → mag (x *ℤ y) ≤ suc (mag x) * suc (mag y)
-mag-mul (pos a) (pos b) = mul-le-mul (omega arith) (omega arith)
-mag-mul (pos a) (negsuc b) = let h : a * suc b ≤ suc a * suc b = mul-le-mul (omega arith) (le-refl (suc b)) in omega (arith, mag-neg (a * suc b))
-mag-mul (negsuc a) (pos b) = let h : suc a * b ≤ suc a * suc b = mul-le-mul (le-refl (suc a)) (omega arith) in omega (arith, mag-neg (suc a * b))
-mag-mul (negsuc a) (negsuc b) = le-refl (suc a * suc b)
+mag-mul (pos a) (pos b) = omega arith
+mag-mul (pos a) (negsuc b) = omega (arith, mag-neg (a * suc b))
+mag-mul (negsuc a) (pos b) = omega (arith, mag-neg (suc a * b))
+mag-mul (negsuc a) (negsuc b) = omega arith
 
 -- by a number that is not negative: exact at both ends
 mag-times : (n : ℕ) (x : ℤ) → mag (pos n *ℤ x) ≤ n * suc (mag x) - 1
-mag-times zero (pos a) = omega (arith, zero-mul a)
-mag-times (suc n) (pos a) = omega (arith, mul-add (suc n) a 1)
+mag-times zero (pos a) = omega arith
+mag-times (suc n) (pos a) = omega arith
 mag-times n (negsuc a) = mag-neg (n * suc a)
 
 div-mono : (m : ℕ) {a b : ℕ} → a ≤ b → a / m ≤ b / m
-div-mono zero {a} {b} h = subst (λ (n : ℕ). n ≤ b / zero) (sym (div-zero a)) (omega arith)
+div-mono zero {a} h = rw (div-zero a) (omega arith)
 div-mono (suc m) {a} {b} h = le-div-iff-mul-le {k = suc m} {x = a / suc m} {y = b} (omega arith) .1 (le-trans (div-mul-le-self a (suc m)) h)
-
-mag-shr : (x : ℤ) (k : ℕ) → mag (shrZ x k) ≡ mag x / k
-mag-shr (pos a) k = refl
-mag-shr (negsuc a) k = refl
 
 -- ---- laws: of the machine's h, which stands for f, and of an operation f, with a bound from the operands' bounds, where a test of those passes
 
@@ -77,7 +73,8 @@ pub times-law : (n : ℕ) → Law1 (λ x. pos n *ℤ x) (λ x. pos n *ℤ x) (λ
 times-law n x m p t = (refl, (let q : n * suc (mag x) ≤ n * suc m = mul-le-mul (le-refl n) (omega arith) in omega (arith, mag-times n x)))
 
 pub shr-law : (k : ℕ) → Law1 (λ x. shrZ x k) (λ x. shrZ x k) (λ m. m / k) (λ m. true)
-shr-law k x m p t = (refl, rw mag-shr (div-mono k p))
+shr-law k (pos a) m p t = (refl, div-mono k p)
+shr-law k (negsuc a) m p t = (refl, div-mono k p)
 
 pub within-fits : (w : Width) (x : ℤ) (m : ℕ) → mag x ≤ m → T (ltb m (2 ^ hbits w)) → SFits w x
 within-fits w x m p t = record { sfits = lt-of-le-of-lt p (ltb→lt m (2 ^ hbits w) t) }
@@ -109,25 +106,30 @@ pub record Q (z : ℤ) : Type 0 where
 pub record Within (m : ℕ) (z : ℤ) : Type 0 where
   pub le : mag z ≤ m
 
+-- what a test that is passed gives
+pub passed : {z : ℤ} (q : Q z) (b : Bool) → T (q .ok && b) → (z ≡ q .value) × (mag (q .value) ≤ q .bound) × T b
+passed q b t = let o = and-l (q .ok) b t in (q .is o, q .within o, and-r (q .ok) b t)
+
 abbrev pub q-1 : (h f : ℤ → ℤ) (g : ℕ → ℕ) (r : ℕ → Bool) → Law1 h f g r → {a : ℤ} → Q a → Q (h a)
-q-1 h f g r law p = record {
-  value = f (p .value);
-  bound = g (p .bound);
-  ok = p .ok && r (p .bound);
-  is = λ t. (λ i. h (p .is (and-l (p .ok) (r (p .bound)) t) i)) ∙ law (p .value) (p .bound) (p .within (and-l (p .ok) (r (p .bound)) t)) (and-r (p .ok) (r (p .bound)) t) .0;
-  within = λ t. law (p .value) (p .bound) (p .within (and-l (p .ok) (r (p .bound)) t)) (and-r (p .ok) (r (p .bound)) t) .1;
-}
+q-1 h f g r law p =
+    let d = r (p .bound) in
+    record {
+      value = f (p .value);
+      bound = g (p .bound);
+      ok = p .ok && d;
+      is = λ t. let o = passed p d t in ap h (o .0) ∙ law (p .value) (p .bound) (o .1) (o .2) .0;
+      within = λ t. let o = passed p d t in law (p .value) (p .bound) (o .1) (o .2) .1;
+    }
 
 abbrev pub q-2 : (f : ℤ → ℤ → ℤ) (g : ℕ → ℕ → ℕ) (r : ℕ → ℕ → Bool) → Law2 f g r → {a b : ℤ} → Q a → Q b → Q (f a b)
 q-2 f g r law p q =
-    let s = p .ok && q .ok in
     let d = r (p .bound) (q .bound) in
     record {
       value = f (p .value) (q .value);
       bound = g (p .bound) (q .bound);
-      ok = s && d;
-      is = λ t. λ i. f (p .is (and-l (p .ok) (q .ok) (and-l s d t)) i) (q .is (and-r (p .ok) (q .ok) (and-l s d t)) i);
-      within = λ t. law (p .value) (q .value) (p .bound) (q .bound) (p .within (and-l (p .ok) (q .ok) (and-l s d t))) (q .within (and-r (p .ok) (q .ok) (and-l s d t))) (and-r s d t);
+      ok = p .ok && (q .ok && d);
+      is = λ t. let o = passed p (q .ok && d) t in λ i. f (o .0 i) (passed q d (o .2) .0 i);
+      within = λ t. let o = passed p (q .ok && d) t in let u = passed q d (o .2) in law (p .value) (q .value) (p .bound) (q .bound) (o .1) (u .1) (u .2);
     }
 
 -- leaves: what stands for x, of magnitude at most m; of a hypothesis; a parameter; of an element or a field; an unsigned number; literals, at which alone the test computes
@@ -137,26 +139,20 @@ q-is x m e h = record { value = x; bound = m; ok = true; is = λ t. e; within = 
 abbrev pub q-at : (x : ℤ) (m : ℕ) → Within m x → Q x
 q-at x m h = q-is x m refl (h .le)
 
-pub fits-within : (w : Width) (x : ℤ) → SFits w x → mag x ≤ 2 ^ hbits w - 1
-fits-within w x f = let h : mag x < 2 ^ hbits w = f .sfits in omega arith
+pub below : {n m : ℕ} → n < m → n ≤ m - 1
+below h = omega arith
 
 abbrev pub q-par : (w : Width) (x : ℤ) → SFits w x → Q x
-q-par w x f = q-is x (2 ^ hbits w - 1) refl (fits-within w x f)
-
-pub below-within : (m : ℕ) (x : ℤ) → mag x < m → mag x ≤ m - 1
-below-within m x h = omega arith
+q-par w x f = q-is x (2 ^ hbits w - 1) refl (below (f .sfits))
 
 abbrev pub q-mag : (m : ℕ) (x : ℤ) → mag x < m → Q x
-q-mag m x h = q-is x (m - 1) refl (below-within m x h)
+q-mag m x h = q-is x (m - 1) refl (below h)
 
 abbrev pub q-elem16 : (x : ℤ) → mag x < 0x8000 → Q x
 q-elem16 x h = q-mag 0x8000 x h
 
-pub nat-within : (w : Width) (n : ℕ) → Fits w n → n ≤ 2 ^ bits w - 1
-nat-within w n f = let h : n < 2 ^ bits w = f .fits in omega arith
-
 abbrev pub q-nat : (w : Width) (n : ℕ) → Fits w n → Q (pos n)
-q-nat w n f = q-is (pos n) (2 ^ bits w - 1) refl (nat-within w n f)
+q-nat w n f = q-is (pos n) (2 ^ bits w - 1) refl (below (f .fits))
 
 abbrev pub q-pos : (n : ℕ) → T (leb n 2147483647) → Q (pos n)
 q-pos n t = q-is (pos n) n refl (le-refl n)
@@ -166,23 +162,23 @@ q-neg n t = q-is (negsuc n) n refl (le-refl n)
 
 -- the operations; `x << k >> k` and masks are in `Cut.antt`
 abbrev pub q-add : {a b : ℤ} → Q a → Q b → Q (a +ℤ b)
-q-add p q = q-2 _+ℤ_ (λ m n. suc (m + n)) (λ m n. true) add-law p q
+q-add p q = q-2 _+ℤ_ _ (λ m n. true) add-law p q
 
 abbrev pub q-sub : {a b : ℤ} → Q a → Q b → Q (a -ℤ b)
-q-sub p q = q-2 _-ℤ_ (λ m n. suc (m + n)) (λ m n. true) sub-law p q
+q-sub p q = q-2 _-ℤ_ _ (λ m n. true) sub-law p q
 
 abbrev pub q-mul : {a b : ℤ} → Q a → Q b → Q (a *ℤ b)
-q-mul p q = q-2 _*ℤ_ (λ m n. suc m * suc n) (λ m n. true) mul-law p q
+q-mul p q = q-2 _*ℤ_ _ (λ m n. true) mul-law p q
 
 abbrev pub q-times : {a : ℤ} (n : ℕ) → T (leb n 2147483647) → Q a → Q (pos n *ℤ a)
-q-times n l p = q-1 (λ x. pos n *ℤ x) (λ x. pos n *ℤ x) (λ m. n * suc m - 1) (λ m. true) (times-law n) p
+q-times n l p = q-1 (λ x. pos n *ℤ x) (λ x. pos n *ℤ x) _ (λ m. true) (times-law n) p
 
 abbrev pub q-shr : {a : ℤ} (k : ℕ) → Q a → Q (shrZ a k)
-q-shr k p = q-1 (λ x. shrZ x k) (λ x. shrZ x k) (λ m. m / k) (λ m. true) (shr-law k) p
+q-shr k p = q-1 (λ x. shrZ x k) (λ x. shrZ x k) _ (λ m. true) (shr-law k) p
 
 -- what the machine reads back from the bits; from those of an unsigned number, `n as i32`
 abbrev pub q-read : {a : ℤ} (w : Width) → Q a → Q (toZ w (ofZ w a))
-q-read w p = q-1 (λ x. toZ w (ofZ w x)) (λ x. x) (λ m. m) (λ m. ltb m (2 ^ hbits w)) (read-law w) p
+q-read w p = q-1 (λ x. toZ w (ofZ w x)) (λ x. x) _ (λ m. ltb m (2 ^ hbits w)) (read-law w) p
 
 abbrev pub q-upto : (w : Width) (n m : ℕ) → n ≤ m → Q (toZ w n)
 q-upto w n m h = q-read w (q-is (pos n) m refl h)
@@ -196,7 +192,7 @@ q-by e q = record { value = q .value; bound = q .bound; ok = q .ok; is = λ t. e
 
 -- a call's result that its type bounds, whatever bound the formula has
 pub value-below : {r : ℤ} (m : ℕ) (q : Q r) → T (q .ok) → mag r < m → mag (q .value) ≤ m - 1
-value-below m q t h = below-within m (q .value) (subst (λ (x : ℤ). mag x < m) (q .is t) h)
+value-below m q t h = below (rw (q .is t) at h)
 
 abbrev pub q-call : (m : ℕ) {r z : ℤ} → r ≡ z → mag r < m → Q z → Q r
 q-call m e h q = record { value = q .value; bound = m - 1; ok = q .ok; is = λ t. e ∙ q .is t; within = λ t. value-below m (q-by e q) t h }
@@ -212,22 +208,16 @@ pub reads : {z : ℤ} (q : Q z) → T (q .ok) → z ≡ q .value
 reads q t = q .is t
 
 pub fits : {w : Width} {z : ℤ} (q : Q z) → T (q .ok && ltb (q .bound) (2 ^ hbits w)) → SFits w z
-fits {w} q t =
-    let b = ltb (q .bound) (2 ^ hbits w) in
-    subst (SFits w) (sym (q .is (and-l (q .ok) b t))) (within-fits w (q .value) (q .bound) (q .within (and-l (q .ok) b t)) (and-r (q .ok) b t))
+fits {w} q t = let o = passed q (ltb (q .bound) (2 ^ hbits w)) t in rw (o .0) (within-fits w _ _ (o .1) (o .2))
 
 pub bounded : {z : ℤ} {m : ℕ} (q : Q z) → T (q .ok && leb (q .bound) m) → Within m z
-bounded {z} {m} q t =
-    let b = leb (q .bound) m in
-    record { le = subst (λ (x : ℤ). mag x ≤ m) (sym (q .is (and-l (q .ok) b t))) (le-trans (q .within (and-l (q .ok) b t)) (leb→le (q .bound) m (and-r (q .ok) b t))) }
+bounded {m = m} q t = let o = passed q (leb (q .bound) m) t in record { le = rw (o .0) (le-trans (o .1) (leb→le _ _ (o .2))) }
 
 -- a cast to an unsigned type, of a formula that stands for the number n
 pub fits-u : {w : Width} {z : ℤ} (q : Q z) (n : ℕ) → q .value ≡ pos n → T (q .ok && ltb (q .bound) (2 ^ bits w)) → T (nonNeg z) × Fits w (natAbs z)
 fits-u {w} q n e t =
-    let b = ltb (q .bound) (2 ^ bits w) in
-    let h : mag (pos n) ≤ q .bound = subst (λ (x : ℤ). mag x ≤ q .bound) e (q .within (and-l (q .ok) b t)) in
-    subst (λ (x : ℤ). T (nonNeg x) × Fits w (natAbs x)) (sym (q .is (and-l (q .ok) b t) ∙ e))
-    (tt, record { fits = lt-of-le-of-lt h (ltb→lt (q .bound) (2 ^ bits w) (and-r (q .ok) b t)) })
+    let o = passed q (ltb (q .bound) (2 ^ bits w)) t in
+    rw (o .0 ∙ e) (tt, record { fits = lt-of-le-of-lt (rw e at (o .1)) (ltb→lt _ _ (o .2)) })
 
 pub reads-u : {z : ℤ} (q : Q z) (n : ℕ) → q .value ≡ pos n → T (q .ok) → natAbs z ≡ n
 reads-u q n e t = ap natAbs (q .is t ∙ e)

@@ -3,12 +3,12 @@ use mathlib.Core.Bool.{Bool, true, _&&_}
 use mathlib.Core.List.{List, [], _∷_}
 use mathlib.Core.Path.{_≡_}
 use Prim.Native.Nat.{ℕ, zero, suc, _<_, zero-le}
-use lib.Dec.{T, leb, leb→le, le→leb}
+use lib.Dec.{T, leb, not-T}
 use borrow.Author.Tests.{leb-true, le-leb}
-use lib.IntN.{ℤ, pos, negsuc}
+use lib.IntN.{ℤ, pos}
 use lib.ListN.{getD, length}
-use native.Mathlib.Nat.{not-suc-le-zero, le-of-suc-le-suc, le-trans}
-use lib.Signed.{mag, leZ, _≤ℤ_, leZ-yes}
+use native.Mathlib.Nat.{not-suc-le-zero, le-of-suc-le-suc}
+use lib.Signed.{mag, leZ, ltZ, _≤ℤ_, leZ-yes, ltZ-yes, ltZ-no, <ℤ-≤ℤ-trans, clashℤ}
 use Rattle.numbers.specs.Listed.{all}
 use Rattle.numbers.proofs.Lists.{all-at}
 use Rattle.numbers.proofs.Range.{Within, and-l, and-r}
@@ -36,14 +36,5 @@ order-at (x ∷ []) t i h = absurd (not-suc-le-zero (le-of-suc-le-suc h))
 order-at (x ∷ y ∷ ys) t zero h = leZ-yes (and-l (leZ x y) (ordered (y ∷ ys)) t)
 order-at (x ∷ y ∷ ys) t (suc i) h = order-at (y ∷ ys) (and-r (leZ x y) (ordered (y ∷ ys)) t) i (le-of-suc-le-suc h)
 
-le-through : (a b c : ℤ) → T (leZ a b) → T (leZ b c) → T (leZ a c)
-le-through (pos a) (pos b) (pos c) p q = le→leb a c (le-trans (leb→le a b p) (leb→le b c q))
-le-through (pos a) (pos b) (negsuc c) p q = absurd q
-le-through (pos a) (negsuc b) c p q = absurd p
-le-through (negsuc a) (pos b) (pos c) p q = tt
-le-through (negsuc a) (pos b) (negsuc c) p q = absurd q
-le-through (negsuc a) (negsuc b) (pos c) p q = tt
-le-through (negsuc a) (negsuc b) (negsuc c) p q = le→leb c a (le-trans (leb→le c b q) (leb→le b a p))
-
 pub ≤ℤ-trans : {a b c : ℤ} → a ≤ℤ b → b ≤ℤ c → a ≤ℤ c
-≤ℤ-trans {a} {b} {c} p q = leZ-yes (le-through a b c (p .le) (q .le))
+≤ℤ-trans {a} {c = c} p q = ltZ-no (not-T (ltZ c a) (λ t. clashℤ (<ℤ-≤ℤ-trans (ltZ-yes t) p) q))

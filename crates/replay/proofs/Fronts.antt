@@ -1,7 +1,7 @@
 -- Laws of a part that is walked from the front, record by record.
 use mathlib.Core.Bool.{true, false}
 use mathlib.Core.List.{List}
-use mathlib.Core.Path.{_≡_, refl, sym, ap, _∙_}
+use mathlib.Core.Path.{_≡_, refl, ap}
 use Prim.Native.Nat.{ℕ, suc, _+_, _-_, _*_, _/_, _≤_, _<_}
 use native.Mathlib.Nat.{mul-le-mul-right, div-mul-le-self, div-le-self, add-mul}
 use native.Mathlib.Numerals.{add-one}
@@ -39,22 +39,22 @@ module _ (leaf : Leaf) (part : List ℕ) (carry : Noise) where
       (c : r ≡ checkOf leaf (take (k * n + n - k * n) (drop (k * n) part)) h) where
     is : r ≡ checkAt leaf part carry k
     unfolding checkAt
-    is = c ∙ (λ i. checkOf leaf (take ((added (k * n) n ∙ e) i) (drop (k * e i) part)) (u .handed i))
+    is = cc (added (k * n) n)
 
     pub one-more : r .equal ≡ true → UpTo (k + 1) (r .carry)
     unfolding handedTo checkAt
     one-more t =
         record {
-          before = below-more _ _ (u .before) (ap (λ (x : Check). x .equal) (sym is) ∙ t);
-          handed = rw add-one (ap (λ (x : Check). x .carry) is);
+          before = below-more _ _ (u .before) (rw (← is) t);
+          handed = rw (add-one, is);
         }
 
     pub stops : k < length part / n → r .equal ≡ false → IsFront leaf part carry k h
     stops l t =
         record {
-          within = (let d = ap (λ (m : ℕ). length part / m) e in omega arith);
+          within = rw (← e) (omega arith);
           before = u .before;
-          differs = λ l. ap (λ (x : Check). x .equal) (sym is) ∙ t;
+          differs = λ l. rw (← is) t;
           handed = u .handed;
         }
 

@@ -1,5 +1,5 @@
 -- The records of a log and their beats: what stays, the set, quiet ticks, registers and values.
-use mathlib.Core.Bool.{Bool, true, false, not, _&&_, _||_}
+use mathlib.Core.Bool.{Bool, true, false, not, _||_}
 use mathlib.Core.List.{List, [], _∷_}
 use mathlib.Core.Path.{_≡_, refl, sym, ap, _∙_}
 use Prim.Native.Nat.{ℕ, zero, suc, _+_, _/_, _%_, _<_}
@@ -19,34 +19,34 @@ use Rattle.log.proofs.Places.{moves, ByteValue, byte-value}
 use Rattle.rework.specs.Alike.{named, stays, without}
 use Rattle.rework.specs.Members.{Fields, modesAfter, quiet, joinedBy, joinedOver, members}
 use Rattle.rework.proofs.Bits.{itself}
-use Rattle.rework.proofs.Tape.{Beat, put, tick, ask, ticksThen, beats, Small, keep, Quiet, joins}
+use Rattle.rework.proofs.Tape.{Beat, put, ticksThen, beats, Small, keep, Quiet, joins}
 
 -- ---- a named voice's own write changes neither field
 
 own-modes : (s r x : ℕ) (m : Fields) → stays s (Write r x) ≡ false → modesAfter r x m ≡ m
 own-modes s r x m e =
     let l = (lt (r % 16) 8 and itself (bit s (r / 16))) .sound (not-false (named s r) e) .0 in
-    rw (ne-eqb r 0x6C (λ z. absurd (omega (arith, l, z))), ne-eqb r 0x2D (λ z. absurd (omega (arith, l, z))))
+    rw (ne-eqb r 0x6C (λ z. absurd (omega arith)), ne-eqb r 0x2D (λ z. absurd (omega arith)))
 
 -- ---- what stays
 
 keep-ticks : (s n : ℕ) (bs : List Beat) → keep s (ticksThen n bs) ≡ ticksThen n (keep s bs)
 unfolding ticksThen keep
 keep-ticks s zero bs = refl
-keep-ticks s (suc n) bs = ap (λ (l : List Beat). tick ∷ l) (keep-ticks s n bs)
+keep-ticks s (suc n) bs = rw (keep-ticks s n bs)
 
-keep-by : (s r x : ℕ) (b : Bool) (bs : List Beat) (rs : List Record) → named s r ≡ b → keep s bs ≡ beats rs
+keep-by : (s r x : ℕ) (b : Bool) (bs : List Beat) (rs : List Record) → keep s bs ≡ beats rs
     → (if b then keep s bs else put r x ∷ keep s bs) ≡ beats (if not b then Write r x ∷ rs else rs)
 unfolding beats
-keep-by s r x true bs rs eb e = e
-keep-by s r x false bs rs eb e = ap (λ (l : List Beat). put r x ∷ l) e
+keep-by s r x true bs rs e = e
+keep-by s r x false bs rs e = rw e
 
 pub keep-beats : (s : ℕ) (rs : List Record) → keep s (beats rs) ≡ beats (without s rs)
 unfolding keep beats without
 keep-beats s [] = refl
-keep-beats s (Write r x ∷ rs) = keep-by s r x (named s r) (beats rs) (without s rs) refl (keep-beats s rs)
+keep-beats s (Write r x ∷ rs) = keep-by s r x (named s r) (beats rs) (without s rs) (keep-beats s rs)
 keep-beats s (Ticks n ∷ rs) = keep-ticks s n (beats rs) ∙ ap (ticksThen n) (keep-beats s rs)
-keep-beats s (Reading r ∷ rs) = ap (λ (l : List Beat). ask r ∷ l) (keep-beats s rs)
+keep-beats s (Reading r ∷ rs) = rw (keep-beats s rs)
 
 -- neither the set nor the quiet sees what is left out
 pub members-without : (s : ℕ) (rs : List Record) (m : Fields) (a : ℕ) → members (without s rs) m a ≡ members rs m a
@@ -54,7 +54,7 @@ unfolding members without
 members-without s [] m a = refl
 members-without s (Write r x ∷ rs) m a =
     tested (λ (l : List Record). members l m a ≡ members rs (modesAfter r x m) a) (stays s (Write r x)) (λ _. members-without s rs (modesAfter r x m) a)
-    (λ e. members-without s rs m a ∙ ap (λ (k : Fields). members rs k a) (sym (own-modes s r x m e)))
+    (λ e. rw (own-modes s r x m e) (members-without s rs m a))
 members-without s (Ticks n ∷ rs) m a = members-without s rs m (joinedOver n (m .pmon) a)
 members-without s (Reading r ∷ rs) m a = members-without s rs m a
 
@@ -63,8 +63,8 @@ unfolding quiet without
 quiet-without s [] m = refl
 quiet-without s (Write r x ∷ rs) m =
     tested (λ (l : List Record). quiet l m ≡ quiet rs (modesAfter r x m)) (stays s (Write r x)) (λ _. quiet-without s rs (modesAfter r x m))
-    (λ e. quiet-without s rs m ∙ ap (quiet rs) (sym (own-modes s r x m e)))
-quiet-without s (Ticks n ∷ rs) m = ap (λ (b : Bool). ((n =? 0) || bit (m .flg) 5) && b) (quiet-without s rs m)
+    (λ e. rw (own-modes s r x m e) (quiet-without s rs m))
+quiet-without s (Ticks n ∷ rs) m = rw (quiet-without s rs m)
 quiet-without s (Reading r ∷ rs) m = quiet-without s rs m
 
 -- ---- the set, and quiet ticks

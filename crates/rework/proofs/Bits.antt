@@ -1,16 +1,13 @@
--- Two bytes in one, and the set of voices that a byte holds: what joins it stays, and a set that a tick's rule has made is closed
--- under that tick's PMON.
+-- A byte with some bits of another, and the set of voices that a byte holds: what joins it stays, and a set that a tick's rule has made
+-- is closed under that tick's PMON.
 use mathlib.Core.Bool.{Bool, true, false, _&&_}
 use mathlib.Core.Logic.{_≢_}
 use mathlib.Core.Path.{_≡_, refl, sym, ap, _∙_}
-use Prim.Native.Nat.{ℕ, zero, suc, _+_, _-_, _*_, _/_, _%_, _^_, _≤_, _<_, min, max}
+use Prim.Native.Nat.{ℕ, zero, suc, _+_, _/_, _%_, _^_, _≤_, _<_}
 use native.Mathlib.Omega.{arith}
-use native.Mathlib.Nat.{lt-of-le-of-lt}
 use native.Mathlib.Decide.{ℕ-discrete}
 use borrow.Author.Tests.{eqb-true, eqb-false}
-use lib.Bits.{bitAnd, bitOr, bitXor, differ, and-shr, or-shr, xor-shr, and-step, or-step, xor-step, and-le-l, or-lt, and-mask, xor-add-and}
 use lib.Count.{ones, ones-step}
-use lib.Pow.{pow-pos}
 use Rattle.numbers.specs.Choice.{if_then_else_}
 use Rattle.numbers.proofs.Choice.{tested, chosen}
 use Rattle.numbers.specs.Bits.{bit, withBit}
@@ -19,21 +16,7 @@ use Rattle.numbers.specs.Listed.{turns}
 use Rattle.dsp.proofs.Tests.{Decides, _and_}
 use Rattle.numbers.proofs.Turns.{turns-keep}
 use Rattle.rework.specs.Members.{joinAfter, joinedBy, countedIn, voicesIn}
-
--- ---- digits
-
--- an operation that goes digit by digit
-op-digit : (op f : ℕ → ℕ → ℕ) → ((x y k : ℕ) → op x y / 2 ^ k ≡ op (x / 2 ^ k) (y / 2 ^ k)) → ((x y : ℕ) → op x y ≡ op (x / 2) (y / 2) * 2 + f (x % 2) (y % 2))
-    → ((d e : ℕ) → d < 2 → e < 2 → f d e < 2) → (x y k : ℕ) → digit (op x y) k ≡ f (digit x k) (digit y k)
-op-digit op f shr step small x y k =
-    let l = small (digit x k) (digit y k) (omega arith) (omega arith) in
-    ap (λ (n : ℕ). n % 2) (shr x y k ∙ step (x / 2 ^ k) (y / 2 ^ k)) ∙ omega (arith, l)
-
-and-digit : (x y k : ℕ) → digit (bitAnd x y) k ≡ min (digit x k) (digit y k)
-and-digit = op-digit bitAnd min and-shr and-step (λ d e a b. omega arith)
-
-or-digit : (x y k : ℕ) → digit (bitOr x y) k ≡ max (digit x k) (digit y k)
-or-digit = op-digit bitOr max or-shr or-step (λ d e a b. omega arith)
+use Rattle.rework.specs.Rework.{endBit}
 
 -- ---- tests
 
@@ -45,55 +28,33 @@ pub unless : (b : Bool) → (b ≡ true → ⊥) → b ≡ false
 unless true h = absurd (h refl)
 unless false h = refl
 
--- ---- two bytes in one
+-- ---- a byte with the set's bits of another
 
-differ-one : (d : ℕ) → d < 2 → differ d 1 ≡ 1 - d
-differ-one zero l = refl
-differ-one (suc zero) l = refl
-differ-one (suc (suc d)) l = absurd (omega arith)
+end-there : (a new n x k : ℕ) → k ≢ n → bit (endBit a new n x) k ≡ bit x k
+end-there a new n x k h = chosen (λ (y : ℕ). bit y k ≡ bit x k) (bit a n) (bit-there x n k (bit new n) h) refl
 
-differ-small : (d e : ℕ) → d < 2 → e < 2 → differ d e < 2
-differ-small zero e l m = m
-differ-small (suc zero) zero l m = omega arith
-differ-small (suc zero) (suc e) l m = omega arith
-differ-small (suc (suc d)) e l m = absurd (omega arith)
+end-here : (new n x : ℕ) (b : Bool) → bit (if b then withBit x n (bit new n) else x) n ≡ (if b then bit new n else bit x n)
+end-here new n x true = bit-here x n (bit new n)
+end-here new n x false = refl
 
-ones-digit : (w k : ℕ) → k < w → digit (2 ^ w - 1) k ≡ 1
-ones-digit zero k l = absurd (omega arith)
-ones-digit (suc w) zero l = omega (arith, pow-pos w)
-ones-digit (suc w) (suc k) l =
-    let h : (2 ^ suc w - 1) / 2 ≡ 2 ^ w - 1 = omega (arith, pow-pos w) in
-    sym (digit-half (2 ^ suc w - 1) k) ∙ ap (λ (x : ℕ). digit x k) h ∙ ones-digit w k (omega arith)
+-- bit k before its turn, and behind it
+bit-before : (a new old k n : ℕ) → n ≤ k → bit (turns (endBit a new) n old) k ≡ bit old k
+unfolding turns
+bit-before a new old k zero l = refl
+bit-before a new old k (suc n) l = end-there a new n _ k (omega arith) ∙ bit-before a new old k n (omega arith)
 
--- the digits that are not a's
-rest-digit : (a k : ℕ) → k < 8 → digit (255 - a % 256) k ≡ 1 - digit a k
-rest-digit a k l =
-    let b = bitAnd a 255 in
-    let e : b ≡ a % 256 = and-mask a 8 in
-    let f : bitAnd b 255 ≡ b % 256 = and-mask b 8 in
-    let g : 255 - a % 256 ≡ bitXor b 255 = (let h = xor-add-and b 255 in omega (arith, e, f, h)) in
-    let x = op-digit bitXor differ xor-shr xor-step differ-small b 255 k in
-    let o = ones-digit 8 k l in
-    let i : digit b k ≡ digit a k = (let y = and-digit a 255 k in omega (arith, y, o)) in
-    ap (λ (n : ℕ). digit n k) g ∙ x ∙ rw (o, i) (differ-one (digit a k) (omega arith))
+pub bit-behind : (a new old k n : ℕ) → k < n → bit (turns (endBit a new) n old) k ≡ (if bit a k then bit new k else bit old k)
+unfolding turns
+bit-behind a new old k zero l = absurd (omega arith)
+bit-behind a new old k (suc n) l =
+    elim (ℕ-discrete k n) [
+      | yes p ↦ rw p (end-here new n _ (bit a n) ∙ rw (bit-before a new old n n (omega arith)))
+      | no p ↦ end-there a new n _ k p ∙ bit-behind a new old k n (omega arith)
+    ]
 
--- the bits of x that are in a, and those of y that are not
-abbrev mixed : ℕ → ℕ → ℕ → ℕ
-mixed a x y = bitOr (bitAnd x a) (bitAnd y (255 - a % 256))
-
-mixed-digit : (a x y k : ℕ) → k < 8 → digit (mixed a x y) k ≡ max (min (digit x k) (digit a k)) (min (digit y k) (1 - digit a k))
-mixed-digit a x y k l =
-    or-digit (bitAnd x a) (bitAnd y (255 - a % 256)) k ∙ rw (and-digit x a k, and-digit y (255 - a % 256) k, rest-digit a k l)
-
-pub bit-mixed : (a x y k : ℕ) → k < 8 → bit (mixed a x y) k ≡ (if bit a k then bit x k else bit y k)
-bit-mixed a x y k l =
-    let d = mixed-digit a x y k l in
-    tested (λ b. bit (mixed a x y) k ≡ b) (bit a k)
-    (λ e. let f = eqb-true (digit a k) 1 e in let g : digit (mixed a x y) k ≡ digit x k = omega (arith, d, f) in rw g)
-    (λ e. let f = eqb-false (digit a k) 1 e in let g : digit (mixed a x y) k ≡ digit y k = omega (arith, d, f) in rw g)
-
-pub mixed-byte : (a x y : ℕ) → x < 256 → y < 256 → mixed a x y < 256
-mixed-byte a x y l m = or-lt 8 (bitAnd x a) (bitAnd y (255 - a % 256)) (lt-of-le-of-lt (and-le-l x a) l) (lt-of-le-of-lt (and-le-l y (255 - a % 256)) m)
+pub end-byte : (a new old : ℕ) → old < 256 → turns (endBit a new) 8 old < 256
+end-byte a new old h =
+    turns-keep (λ (x : ℕ). x < 256) (endBit a new) 8 (λ n x l k. chosen (λ (y : ℕ). y < 256) (bit a n) (with-byte x n (bit new n) k l) k) 8 old (omega arith) h
 
 -- ---- the set
 

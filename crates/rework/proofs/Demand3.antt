@@ -2,7 +2,7 @@
 -- run's sheet agrees there with the second's, and the rework over it gives the second run (`right`).
 use mathlib.Core.Bool.{true, _&&_}
 use mathlib.Core.List.{List, [], _∷_, flatten}
-use mathlib.Core.Path.{_≡_, refl, sym, ap, subst, _∙_}
+use mathlib.Core.Path.{_≡_, refl, sym, ap, _∙_}
 use Prim.Native.Nat.{ℕ, _*_}
 use lib.ListN.{length, drop}
 use borrow.Author.Tests.{eq-eqb}
@@ -18,21 +18,21 @@ use Rattle.log.specs.declared.Record.{Record}
 use Rattle.log.specs.declared.Record.the-variants.{Write, Ticks, Reading}
 use Rattle.log.proofs.Turn.{taken}
 use Rattle.sitting.specs.Play.{Run, playAll, starting}
-use Rattle.sitting.specs.Run.{Outcome, ran, runOf}
+use Rattle.sitting.specs.Run.{ran, runOf}
 use Rattle.rework.specs.Alike.{without, sameRecord, sameRecords, alike}
 use Rattle.rework.specs.Members.{modesOf, quiet, members}
-use Rattle.rework.specs.Differ.{SameBut, Value}
-use Rattle.rework.specs.Rework.{Left, endParts, refusalOf, setOf, only, reworked, reworkOf}
+use Rattle.rework.specs.Differ.{SameBut}
+use Rattle.rework.specs.Rework.{endParts, refusalOf, setOf, only, reworked, reworkOf}
 use Rattle.rework.specs.Demands.{Bytes, Demand3}
-use Rattle.rework.proofs.Tape.{Beat, beats, keep, modesIn, joins, Tape, tape, Rows, Kept, Sim, Right}
+use Rattle.rework.proofs.Tape.{beats, modesIn, Tape, tape, Rows, Kept, Sim, Right}
 use Rattle.rework.proofs.Right.{Sized36, rows-36, right}
-use Rattle.rework.proofs.Kept.{Sized, kept}
+use Rattle.rework.proofs.Kept.{kept}
 use Rattle.rework.proofs.Ends.{end-parts}
 use Rattle.rework.proofs.Taped.{taped}
-use Rattle.rework.proofs.Sheets.{rows-length, over-rows, others, rows-sym, rows-trans, rows-count, puts, measured-sums, same-sym, same-trans}
+use Rattle.rework.proofs.Sheets.{rows-length, over-rows, others, rows-both, rows-count, puts, measured-sums, same-both}
 use Rattle.rework.proofs.Beats.{keep-beats, members-without, quiet-without, joins-beats, quiet-beats, small-beats}
 use Rattle.rework.proofs.Taken.{Fitting, unrefused, run-is}
-use Rattle.rework.proofs.Keeps.{whole-start, whole-tape, whole-fit, whole-sized}
+use Rattle.rework.proofs.Keeps.{Whole, whole-start, whole-tape, whole-fit, whole-sized}
 
 -- ---- logs that are alike
 
@@ -74,9 +74,6 @@ sim-self a p lv ld =
       globals = refl;
     }
 
-sized : {p : Parts} → Value p → Sized p
-sized v = record { registers = v .registers; voices = v .voices; delays = v .delays }
-
 -- ---- the two runs, as tapes
 
 pub record Runs (a : ℕ) (x y : Tape) : Type 0 where
@@ -102,26 +99,22 @@ module _ (s : ℕ) (d₁ d₂ : Dsp) (ram log₁ log₂ : List ℕ) (same : Same
   pub quiet-same : quiet rs₁ (modesOf d₁) ≡ true → quiet rs₂ (modesOf d₂) ≡ true
   quiet-same q = sym (quiet-without s rs₂ (modesOf d₂)) ∙ (λ i. quiet (sym logs i) (sym modes-same i)) ∙ quiet-without s rs₁ (modesOf d₁) ∙ q
 
-  -- outside the set both runs agree with the run of what their logs have in common, and so with one another
-  pub runs : (o₁ o₂ : List ℕ) → Bytes log₁ → Bytes log₂ → Value (apart d₁) → Value (apart d₂) → quiet rs₁ (modesOf d₁) ≡ true
+  -- outside the set a run agrees with the run of what both logs have in common
+  agrees : (d : Dsp) (log o : List ℕ) → Bytes log → Whole (apart d) ram → Whole (apart d₂) ram → SameBut s (apart d) (apart d₂) → quiet (decode log .records) (modesOf d) ≡ true
+      → members (decode log .records) (modesOf d) s ≡ setOf s d₂ log₂ → without s (decode log .records) ≡ without s rs₂
+      → Kept (setOf s d₂ log₂) ram (tape everything (beats (decode log .records)) o (apart d) ram) (tape everything (beats (without s rs₂)) [] (apart d₂) ram)
+  agrees d log o b h h₂ e q m w =
+      let rs = decode log .records in
+      let k = kept s (beats rs) s o [] (apart d) (apart d₂) ram (h .room) (small-beats log b) (h .good) (h₂ .good) (λ j l t. t) e (quiet-beats rs (modesOf d) q) in
+      rw (joins-beats rs (modesOf d) s ∙ m, keep-beats s rs ∙ ap beats w) at k
+
+  -- and so both with one another
+  pub runs : (o₁ o₂ : List ℕ) → Bytes log₁ → Bytes log₂ → Whole (apart d₁) ram → Whole (apart d₂) ram → quiet rs₁ (modesOf d₁) ≡ true
       → Runs (setOf s d₂ log₂) (tape everything (beats rs₁) o₁ (apart d₁) ram) (tape everything (beats rs₂) o₂ (apart d₂) ram)
-  runs o₁ o₂ b₁ b₂ v₁ v₂ q =
-      let a = setOf s d₂ log₂ in
-      let x = tape everything (beats rs₁) o₁ (apart d₁) ram in
-      let y = tape everything (beats rs₂) o₂ (apart d₂) ram in
-      let z = tape everything (beats (without s rs₂)) [] (apart d₂) ram in
-      let k₁ = kept s (beats rs₁) s o₁ [] (apart d₁) (apart d₂) ram (small-beats log₁ b₁) (sized v₁) (sized v₂) (λ j l e. e) same (quiet-beats rs₁ (modesOf d₁) q) in
-      let k₂ = kept s (beats rs₂) s o₂ [] (apart d₂) (apart d₂) ram (small-beats log₂ b₂) (sized v₂) (sized v₂) (λ j l e. e) (same-self s (apart d₂)) (quiet-beats rs₂ (modesOf d₂) (quiet-same q)) in
-      let e₁ : joins (beats rs₁) (modesOf d₁) s ≡ a = joins-beats rs₁ (modesOf d₁) s ∙ set-same in
-      let e₂ : joins (beats rs₂) (modesOf d₂) s ≡ a = joins-beats rs₂ (modesOf d₂) s in
-      let f₁ : keep s (beats rs₁) ≡ beats (without s rs₂) = keep-beats s rs₁ ∙ ap beats logs in
-      let f₂ : keep s (beats rs₂) ≡ beats (without s rs₂) = keep-beats s rs₂ in
-      let g₁ : Kept a ram x z = subst (λ (c : List Beat). Kept a ram x (tape everything c [] (apart d₂) ram)) f₁ (subst (λ (n : ℕ). Kept n ram x (tape everything (keep s (beats rs₁)) [] (apart d₂) ram)) e₁ k₁) in
-      let g₂ : Kept a ram y z = subst (λ (c : List Beat). Kept a ram y (tape everything c [] (apart d₂) ram)) f₂ (subst (λ (n : ℕ). Kept n ram y (tape everything (keep s (beats rs₂)) [] (apart d₂) ram)) e₂ k₂) in
-      record {
-        parts = same-trans a (x .parts) (z .parts) (y .parts) (g₁ .parts) (same-sym a (y .parts) (z .parts) (g₂ .parts));
-        rows = rows-trans a (g₁ .rows) (rows-sym a (g₂ .rows));
-      }
+  runs o₁ o₂ b₁ b₂ h₁ h₂ q =
+      let g₁ = agrees d₁ log₁ o₁ b₁ h₁ h₂ same q set-same logs in
+      let g₂ = agrees d₂ log₂ o₂ b₂ h₂ h₂ (same-self s (apart d₂)) (quiet-same q) refl refl in
+      record { parts = same-both (setOf s d₂ log₂) _ _ _ (g₁ .parts) (g₂ .parts); rows = rows-both (setOf s d₂ log₂) (g₁ .rows) (g₂ .rows) }
 
 -- ---- the refusals
 
@@ -158,11 +151,12 @@ demand3 s d₁ d₂ ram log₁ log₂ pcm₁ sheet₁ readings₁ pcm₂ sheet�
     let t₂ = tape everything (beats rs₂) sheet₂ (apart d₂) ram in
     let p₁ = taped everything rs₁ (benchOf d₁ ram sheet₁) [] in
     let p₂ = taped everything rs₂ (benchOf d₂ ram sheet₂) [] in
-    let w₁ = whole-tape everything (beats rs₁) sheet₁ (apart d₁) ram (small-beats log₁ b₁) (whole-start d₁ ram v₁ (f₁ .fits) (f₁ .ram-whole)) in
+    let h₁ = whole-start d₁ ram v₁ (f₁ .fits) (f₁ .ram-whole) in
+    let w₁ = whole-tape everything (beats rs₁) sheet₁ (apart d₁) ram (small-beats log₁ b₁) h₁ in
     let h₂ = whole-start d₂ ram v₂ (f₂ .fits) (f₂ .ram-whole) in
     let w₂ = whole-tape everything (beats rs₂) sheet₂ (apart d₂) ram (small-beats log₂ b₂) h₂ in
     let q₂ = quiet-same s d₁ d₂ ram log₁ log₂ same logs q in
-    let r = runs s d₁ d₂ ram log₁ log₂ same logs sheet₁ sheet₂ b₁ b₂ v₁ v₂ q in
+    let r = runs s d₁ d₂ ram log₁ log₂ same logs sheet₁ sheet₂ b₁ b₂ h₁ h₂ q in
     let end = together (t₁ .parts) in
     let old = flatten (t₁ .rows) in
     let s₁ = rows-36 (beats rs₁) sheet₁ (apart d₁) ram in
@@ -184,20 +178,20 @@ demand3 s d₁ d₂ ram log₁ log₂ pcm₁ sheet₁ readings₁ pcm₂ sheet�
     right a (beats rs₂) sheet₂ old (apart d₂) (apart d₂) ram (f₂ .ram-whole) (small-beats log₂ b₂) (sim-self a (apart d₂) (v₂ .voices) (v₂ .delays)) (h₂ .good)
     (quiet-beats rs₂ (modesOf d₂) q₂) (over-rows a s₁ (r .rows)) in
     let en = end-parts a (t₃ .parts) (t₁ .parts) (t₂ .parts) (whole-sized w₁) (whole-sized w₂) (w₁ .endx) (w₂ .endx) (g .parts) (r .parts) in
-    let sheet₁-is : first .sheet ≡ old = ap (λ (o : Outcome). o .sheet) i₁ ∙ p₁ .sheet in
-    let end-is : first .dsp ≡ end = ap (λ (o : Outcome). o .dsp) i₁ ∙ ap together (p₁ .parts) in
-    let sheet₂-is : second .sheet ≡ flatten (t₂ .rows) = ap (λ (o : Outcome). o .sheet) i₂ ∙ p₂ .sheet in
+    let sheet₁-is : first .sheet ≡ old = (λ i. i₁ i .sheet) ∙ p₁ .sheet in
+    let end-is : first .dsp ≡ end = (λ i. i₁ i .dsp) ∙ ap together (p₁ .parts) in
+    let sheet₂-is : second .sheet ≡ flatten (t₂ .rows) = (λ i. i₂ i .sheet) ∙ p₂ .sheet in
     let played : Run = playAll (only a) rs₂ (starting d₂ ram old) in
     let x-is : reworkOf s d₂ (first .dsp) ram log₁ log₂ pcm (first .sheet) readings ≡ reworked a d₂ end (ran m₂ played) =
     (λ i. reworkOf s d₂ (end-is i) ram log₁ log₂ pcm (sheet₁-is i) readings) ∙ rw (eq-eqb (refusalOf s d₂ end ram log₁ log₂) 0 n₀) (ap (reworked a d₂ end) i₃) in
-    let sheet-is = ap (λ (y : Left). y .sheet) x-is ∙ p₃ .sheet ∙ ap flatten (g .rows) in
+    let sheet-is = (λ i. x-is i .sheet) ∙ p₃ .sheet ∙ ap flatten (g .rows) in
     record {
-      refusal = ap (λ (y : Left). y .refusal) x-is;
+      refusal = (λ i. x-is i .refusal);
       sheet = sheet-is ∙ sym sheet₂-is;
-      readings = ap (λ (y : Left). y .readings) x-is ∙ p₃ .readings ∙ g .readings ∙ sym (ap (λ (o : Outcome). o .readings) i₂ ∙ p₂ .readings);
-      samples = ap (λ (y : Left). y .pcm) x-is ∙ p₃ .pcm ∙ ap flatten (g .frames) ∙ sym (ap (λ (o : Outcome). o .pcm) i₂ ∙ p₂ .pcm);
-      end = ap (λ (y : Left). y .dsp) x-is ∙ ap (λ (p : Parts). together (endParts a p (t₁ .parts))) (p₃ .parts) ∙ ap together en ∙ sym (ap (λ (o : Outcome). o .dsp) i₂ ∙ ap together (p₂ .parts));
-      members = ap (λ (y : Left). y .members) x-is;
-      count = ap (λ (y : Left). y .count) x-is;
-      others = λ t j l o. ap (λ (b : List ℕ). laneAt j (drop (t * 36) b)) sheet-is ∙ others a s₁ s₂ (r .rows) t j l o ∙ sym (ap (λ (b : List ℕ). laneAt j (drop (t * 36) b)) sheet₁-is);
+      readings = (λ i. x-is i .readings) ∙ p₃ .readings ∙ g .readings ∙ sym ((λ i. i₂ i .readings) ∙ p₂ .readings);
+      samples = (λ i. x-is i .pcm) ∙ p₃ .pcm ∙ ap flatten (g .frames) ∙ sym ((λ i. i₂ i .pcm) ∙ p₂ .pcm);
+      end = (λ i. x-is i .dsp) ∙ (λ i. together (endParts a (p₃ .parts i) (t₁ .parts))) ∙ ap together en ∙ sym ((λ i. i₂ i .dsp) ∙ ap together (p₂ .parts));
+      members = (λ i. x-is i .members);
+      count = (λ i. x-is i .count);
+      others = λ t j l o. (λ i. laneAt j (drop (t * 36) (sheet-is i))) ∙ others a s₁ s₂ (r .rows) t j l o ∙ (λ i. laneAt j (drop (t * 36) (sym sheet₁-is i)));
     }

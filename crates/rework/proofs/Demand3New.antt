@@ -20,7 +20,7 @@ use Rattle.log.proofs.Turn.{taken}
 use Rattle.sitting.specs.Run.{Outcome, runOf}
 use Rattle.rework.specs.Alike.{stays, without}
 use Rattle.rework.specs.Members.{modesOf, quiet}
-use Rattle.rework.specs.Rework.{Left, refusalOf, reworkOf, afterFirst, reworkNewOf}
+use Rattle.rework.specs.Rework.{Left, refusalOf, reworkOf, reworkNewOf}
 use Rattle.rework.specs.Demands.{Bytes, Reworks, Demand3New}
 use Rattle.rework.proofs.Taped.{taped}
 use Rattle.rework.proofs.Sheets.{sumIn, puts, measured-sums}
@@ -38,9 +38,9 @@ sum-without f h s [] = refl
 sum-without f h s (Write r x ∷ rs) =
     let e = sum-without f h s rs in
     let z = h r x in
-    tested (λ (l : List Record). sumIn f l ≡ f (Write r x) + sumIn f rs) (stays s (Write r x)) (λ _. ap (λ (k : ℕ). f (Write r x) + k) e) (λ _. omega (arith, e, z))
-sum-without f h s (Ticks n ∷ rs) = ap (λ (k : ℕ). f (Ticks n) + k) (sum-without f h s rs)
-sum-without f h s (Reading r ∷ rs) = ap (λ (k : ℕ). f (Reading r) + k) (sum-without f h s rs)
+    tested (λ (l : List Record). sumIn f l ≡ f (Write r x) + sumIn f rs) (stays s (Write r x)) (λ _. rw e) (λ _. omega arith)
+sum-without f h s (Ticks n ∷ rs) = rw (sum-without f h s rs)
+sum-without f h s (Reading r ∷ rs) = rw (sum-without f h s rs)
 
 sums-same : (f : Record → ℕ) → ((r x : ℕ) → f (Write r x) ≡ 0) → (s : ℕ) (rs qs : List Record) → without s rs ≡ without s qs → sumIn f rs ≡ sumIn f qs
 sums-same f h s rs qs e = sym (sum-without f h s rs) ∙ ap (sumIn f) e ∙ sum-without f h s qs
@@ -78,25 +78,24 @@ module _ (s : ℕ) (ram log₁ log₂ pcm sheet readings : List ℕ) (b₁ : Byt
         let p = taped everything (decode log₁ .records) (benchOf newDsp ram sheet) [] in
         let c = puts everything (decode log₁ .records) sheet (apart newDsp) ram in
         let m = measured-sums log₁ (u .first) in (
-          ap (λ (o : Outcome). length (o .pcm)) i ∙ ap length (p .pcm) ∙ c .pcm ∙ ap (λ (k : ℕ). k * 4) (sym (m .0)) ∙ sym (f .sounds),
-          ap (λ (o : Outcome). length (o .readings)) i ∙ ap length (p .readings) ∙ c .readings ∙ sym (m .1) ∙ sym (f .told),
+          (λ j. length (i j .pcm)) ∙ ap length (p .pcm) ∙ c .pcm ∙ ap (λ (k : ℕ). k * 4) (sym (m .0)) ∙ sym (f .sounds),
+          (λ j. length (i j .readings)) ∙ ap length (p .readings) ∙ c .readings ∙ sym (m .1) ∙ sym (f .told),
         )
 
     pub reworks : Reworks s newDsp log₂ first second (reworkOf s newDsp (first .dsp) ram log₁ log₂ (first .pcm) (first .sheet) (first .readings))
     reworks =
-        let q : quiet (decode log₁ .records) (modesOf newDsp) ≡ true = sym (quiet-without s (decode log₁ .records) (modesOf newDsp)) ∙ ap (λ (l : List Record). quiet l (modesOf newDsp)) (u .logs) ∙ quiet-without s (decode log₂ .records) (modesOf newDsp) ∙ u .still in
+        let q : quiet (decode log₁ .records) (modesOf newDsp) ≡ true = sym (quiet-without s (decode log₁ .records) (modesOf newDsp)) ∙ (λ i. quiet (u .logs i) (modesOf newDsp)) ∙ quiet-without s (decode log₂ .records) (modesOf newDsp) ∙ u .still in
         demand3 s newDsp newDsp ram log₁ log₂ pcm sheet readings pcm sheet readings (first .pcm) (first .readings) new-value new-value b₁ b₂ (same-self s (apart newDsp)) (u .logs) q
-        (ap (λ (o : Outcome). o .refusal) (run-is everything newDsp ram log₁ pcm sheet readings f)) (ap (λ (o : Outcome). o .refusal) (run-is everything newDsp ram log₂ pcm sheet readings fits-second))
+        (λ i. run-is everything newDsp ram log₁ pcm sheet readings f i .refusal) (λ i. run-is everything newDsp ram log₂ pcm sheet readings fits-second i .refusal)
         (lengths .0) (lengths .1)
-
-  pub after : Unrefused s newDsp newDsp ram log₁ log₂ → afterFirst s ram log₁ log₂ first .refusal ≡ 0 → Reworks s newDsp log₂ first second (afterFirst s ram log₁ log₂ first)
-  after u =
-      tested (λ (x : Left). x .refusal ≡ 0 → Reworks s newDsp log₂ first second x) (first .refusal =? 0)
-      (λ e _. reworks u (unrefused everything newDsp ram log₁ pcm sheet readings (eqb-true _ _ e))) (λ e z. absurd (eqb-false _ _ e z))
 
 pub demand3-new : Demand3New
 unfolding reworkNewOf
 demand3-new s ram log₁ log₂ pcm sheet readings b₁ b₂ =
-    tested (λ (x : Left). x .refusal ≡ 0 → Reworks s newDsp log₂ (runOf newDsp ram log₁ pcm sheet readings) (runOf newDsp ram log₂ pcm sheet readings) x) (refusalOf s newDsp newDsp ram log₁ log₂ =? 0)
-    (λ e. after s ram log₁ log₂ pcm sheet readings b₁ b₂ (passed s newDsp newDsp ram log₁ log₂ (eqb-true _ _ e)))
+    let o = runOf newDsp ram log₁ pcm sheet readings in
+    let P : Left → Type 0 = (λ x. x .refusal ≡ 0 → Reworks s newDsp log₂ o (runOf newDsp ram log₂ pcm sheet readings) x) in
+    tested P (refusalOf s newDsp newDsp ram log₁ log₂ =? 0)
+    (λ e. tested P (o .refusal =? 0)
+    (λ f _. reworks s ram log₁ log₂ pcm sheet readings b₁ b₂ (passed s newDsp newDsp ram log₁ log₂ (eqb-true _ _ e)) (unrefused everything newDsp ram log₁ pcm sheet readings (eqb-true _ _ f)))
+    (λ f z. absurd (eqb-false _ _ f z)))
     (λ e z. absurd (eqb-false _ _ e z))

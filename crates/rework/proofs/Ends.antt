@@ -16,7 +16,7 @@ use Rattle.dsp.proofs.Tests.{lt, _and_}
 use Rattle.rework.specs.Differ.{Outside, SameBytes, SameBut}
 use Rattle.rework.specs.Rework.{picked, owns, endByte, pickedBytes, endParts}
 use Rattle.rework.proofs.Listed.{listed-is}
-use Rattle.rework.proofs.Bits.{itself, unless, bit-mixed, mixed-byte}
+use Rattle.rework.proofs.Bits.{itself, unless, bit-behind, end-byte}
 use Rattle.rework.proofs.Tape.{Sim}
 use Rattle.rework.proofs.Kept.{Sized}
 
@@ -40,7 +40,7 @@ other-byte a i ys zs l s e o =
 -- y, z: ENDX of the old end and of the second run's
 endx-byte : (a y z : ℕ) → y < 256 → z < 256 → ((j : ℕ) → j < 8 → Outside a j → bit y j ≡ bit z j) → endByte a 0x7C z y ≡ z
 endx-byte a y z l m h =
-    byte-ext (endByte a 0x7C z y) z (mixed-byte a z y m l) m (λ k n. bit-mixed a z y k n ∙ tested (λ b. b ≡ bit z k) (bit a k) (λ t. refl) (h k n))
+    byte-ext (endByte a 0x7C z y) z (end-byte a z y l) m (λ k n. bit-behind a z y k 8 n ∙ tested (λ b. b ≡ bit z k) (bit a k) (λ t. refl) (h k n))
 
 -- bytes that agree with others outside the set, and have the others' own bytes and ENDX bits in it, are the others
 bytes-all : (a : ℕ) (ys zs : List ℕ) → length zs ≡ 128 → getD ys 0x7C 0 < 256 → getD zs 0x7C 0 < 256 → SameBytes a ys zs → pickedBytes a zs ys ≡ zs

@@ -1,7 +1,7 @@
 -- "`new` is fit and every call keeps it so."
 use mathlib.Core.List.{List, []}
-use mathlib.Core.Path.{_≡_, sym, ap, subst, _∙_}
-use Prim.Native.Nat.{ℕ, zero, suc, _*_, _%_, _<_}
+use mathlib.Core.Path.{_≡_}
+use Prim.Native.Nat.{ℕ, zero, suc, _*_, _%_}
 use native.Mathlib.Omega.{arith}
 use native.Mathlib.Decide.{ℕ-discrete, decLt}
 use lib.ListN.{getD, length, List·getD-eq-default}
@@ -23,7 +23,7 @@ use Rattle.log.specs.declared.Record.the-variants.{Write, Ticks, Reading}
 use Rattle.log.specs.declared.Next.{Next}
 use Rattle.log.specs.declared.Next.the-variants.{On, Off}
 use Rattle.log.proofs.Places.{moves, ByteValue, byte-value}
-use Rattle.sitting.specs.Run.{Outcome, runWith, runOf}
+use Rattle.sitting.specs.Run.{runWith, runOf}
 use Rattle.sitting.specs.Parts.{Told, Parted, stopAt, recordAt, nextAt, ticksNow, sounding, logRefusal, partOf}
 use Rattle.numbers.specs.Listed.{listed}
 use Rattle.rework.specs.Rework.{picked, endParts, setOf, only, Left, refusalOf, reworkOf, reworkNewOf}
@@ -37,12 +37,7 @@ use Rattle.rework.proofs.Taken.{unrefused, run-is}
 use Rattle.rework.proofs.Keeps.{Whole, whole-tick, whole-tape, whole-start, whole-fit, new-value}
 use Rattle.rework.proofs.Refused.{run-exactly}
 
--- ---- the chip
-
-write-fit : (index x : ℕ) (d : Dsp) → x < 256 → IsFit d → IsFit (writeOf index x d .dsp)
-unfolding writeOf
-write-fit index x d l f =
-    tested (λ (a : Written). IsFit (a .dsp)) (fit d) (λ _. facts-fit _ (fit-kept-write (index % 128) x d (omega arith) l (fit-facts d f))) (λ _. f)
+-- ---- ticks
 
 whole-ticks : (w : Work) (n : ℕ) (b : Bench) → Whole (b .parts) (b .ram) → Whole (ticksOf w n b .parts) (ticksOf w n b .ram)
 unfolding ticksOf benchTick
@@ -53,21 +48,7 @@ whole-ticks w (suc n) b h = let c = ticksOf w n b in whole-tick w (c .old) (c .p
 ticks-of-fit : (w : Work) (n : ℕ) (d : Dsp) (ram old : List ℕ) → IsRecord d → IsFit d → length ram ≡ 0x10000 → IsFit (together (ticksOf w n (benchOf d ram old) .parts))
 ticks-of-fit w n d ram old v f l = whole-fit (whole-ticks w n (benchOf d ram old) (whole-start d ram v f l))
 
-step-fit : (d : Dsp) (ram : List ℕ) → IsRecord d → IsFit d → IsFit (stepOf d ram .dsp)
-unfolding stepOf
-step-fit d ram v f =
-    let P : After → Type 0 = (λ a. IsFit (a .dsp)) in
-    tested P (length ram =? 0x10000)
-    (λ e. tested P (fit d) (λ _. whole-fit (whole-tick everything [] (apart d) ram (whole-start d ram v f (eqb-true _ _ e)))) (λ _. f)) (λ _. f)
-
-ticks-fit : (w : Work) (n : ℕ) (d : Dsp) (ram pcm sheet : List ℕ) → IsRecord d → IsFit d → IsFit (driveOf w n d ram pcm sheet .dsp)
-unfolding driveOf
-ticks-fit w n d ram pcm sheet v f =
-    let P : Drove → Type 0 = (λ a. IsFit (a .dsp)) in
-    tested P (length ram =? 0x10000) (λ e. tested P (fit d) (λ _. tested P (length pcm =? n * 4)
-    (λ _. tested P (length sheet =? n * 36) (λ _. ticks-of-fit w n d ram sheet v f (eqb-true _ _ e)) (λ _. f)) (λ _. f)) (λ _. f)) (λ _. f)
-
--- ---- a run, and its parts
+-- ---- a run, and a record of its log
 
 run-fit : (w : Work) (d : Dsp) (ram log pcm sheet readings : List ℕ) → IsRecord d → Bytes log → IsFit d → IsFit (runWith w d ram log pcm sheet readings .dsp)
 run-fit w d ram log pcm sheet readings v b f =
@@ -77,8 +58,8 @@ run-fit w d ram log pcm sheet readings v b f =
           let g = unrefused w d ram log pcm sheet readings z in
           let t = whole-tape w (beats (decode log .records)) sheet (apart d) ram (small-beats log b) (whole-start d ram v f (g .ram-whole)) in
           let p = taped w (decode log .records) (benchOf d ram sheet) [] in
-          subst IsFit (sym (ap (λ (x : Outcome). x .dsp) (run-is w d ram log pcm sheet readings g) ∙ ap together (p .parts))) (whole-fit t)
-      | no z ↦ subst IsFit (sym (ap (λ (x : Outcome). x .dsp) (run-exactly w d ram log pcm sheet readings .1 z))) f
+          rw (run-is w d ram log pcm sheet readings g, p .parts) (whole-fit t)
+      | no z ↦ rw (run-exactly w d ram log pcm sheet readings .1 z) f
     ]
 
 next-fit : (n : Next) (d : Dsp) (at size : ℕ) → Moves at size n → ByteValue n → IsFit d → IsFit (nextAt n d at .dsp)
@@ -88,24 +69,16 @@ next-fit (On (Write r x) behind) d at size m b f = facts-fit _ (fit-kept-write r
 next-fit (On (Ticks n) behind) d at size m b f = f
 next-fit (On (Reading r) behind) d at size m b f = f
 
-part-fit : (d : Dsp) (at left : ℕ) (ram log pcm : List ℕ) → IsRecord d → Bytes log → IsFit d → IsFit (partOf d at left ram log pcm .told .dsp)
-unfolding partOf sounding
-part-fit d at left ram log pcm v b f =
-    let P : Parted → Type 0 = (λ a. IsFit (a .told .dsp)) in
-    tested P (length ram =? 0x10000) (λ e. tested P (fit d) (λ _. tested P (logRefusal at log =? 0)
-    (λ _. tested P (left =? 0) (λ _. next-fit (readAt log at) d at (length log) (moves log at) (byte-value log at b) f)
-    (λ _. tested P (length pcm <? 4) (λ _. f) (λ _. ticks-of-fit everything (ticksNow left (length pcm)) d ram [] v f (eqb-true _ _ e))))
-    (λ _. f)) (λ _. f)) (λ _. f)
-
 -- ---- a rework
 
 -- of two lists of eight, what both keep
 picked-keeps : {A : Type 0} (P : A → Type 0) (x : A) (a : ℕ) (new old : List A) → P x → (j : ℕ) → P (getD new j x) → P (getD old j x) → P (getD (picked x a new old) j x)
 unfolding picked
 picked-keeps P x a new old z j p q =
+    let f : ℕ → _ = (λ i. if bit a i then getD new i x else getD old i x) in
     elim (decLt j 8) [
-      | yes l ↦ subst P (sym (getD-listed (λ i. if bit a i then getD new i x else getD old i x) 8 j x l)) (chosen P (bit a j) p q)
-      | no l ↦ let f : ℕ → _ = (λ i. if bit a i then getD new i x else getD old i x) in let e = length-listed f 8 in subst P (sym (List·getD-eq-default (listed f 8) x {n = j} (omega (arith, e)))) z
+      | yes l ↦ rw (getD-listed f 8 j x l) (chosen P (bit a j) p q)
+      | no l ↦ rw (List·getD-eq-default (listed f 8) x {n = j} (omega (arith, length-listed f 8))) z
     ]
 
 end-fit : (a : ℕ) (new old : Dsp) → IsFit new → IsFit old → IsFit (together (endParts a (apart new) (apart old)))
@@ -129,25 +102,34 @@ rework-fit s start end ram log₁ log₂ pcm sheet readings v b f g =
     tested P (refusalOf s start end ram log₁ log₂ =? 0)
     (λ _. tested P (o .refusal =? 0) (λ _. end-fit a (o .dsp) end (run-fit (only a) start ram log₂ pcm sheet readings v b f) g) (λ _. f)) (λ _. f)
 
-rework-new-fit : (s : ℕ) (ram log₁ log₂ pcm sheet readings : List ℕ) → Bytes log₁ → Bytes log₂ → IsFit (reworkNewOf s ram log₁ log₂ pcm sheet readings .dsp)
-unfolding reworkNewOf
-rework-new-fit s ram log₁ log₂ pcm sheet readings b₁ b₂ =
-    let P : Left → Type 0 = (λ a. IsFit (a .dsp)) in
-    let o = runOf newDsp ram log₁ pcm sheet readings in
-    tested P (refusalOf s newDsp newDsp ram log₁ log₂ =? 0)
-    (λ _. tested P (o .refusal =? 0)
-    (λ _. rework-fit s newDsp (o .dsp) ram log₁ log₂ (o .pcm) (o .sheet) (o .readings) new-value b₂ new-fit (run-fit everything newDsp ram log₁ pcm sheet readings new-value b₁ new-fit))
-    (λ _. new-fit)) (λ _. new-fit)
-
 pub every-call-keeps-fit : EveryCallKeepsFit
+unfolding writeOf stepOf driveOf partOf sounding reworkNewOf
 every-call-keeps-fit =
     record {
       new = new-fit;
-      write = write-fit;
-      step = step-fit;
-      ticks = ticks-fit;
+      write = λ index x d l f.
+          tested (λ (a : Written). IsFit (a .dsp)) (fit d) (λ _. facts-fit _ (fit-kept-write (index % 128) x d (omega arith) l (fit-facts d f))) (λ _. f);
+      step = λ d ram v f.
+          let P : After → Type 0 = (λ a. IsFit (a .dsp)) in
+          tested P (length ram =? 0x10000)
+          (λ e. tested P (fit d) (λ _. whole-fit (whole-tick everything [] (apart d) ram (whole-start d ram v f (eqb-true _ _ e)))) (λ _. f)) (λ _. f);
+      ticks = λ w n d ram pcm sheet v f.
+          let P : Drove → Type 0 = (λ a. IsFit (a .dsp)) in
+          tested P (length ram =? 0x10000) (λ e. tested P (fit d) (λ _. tested P (length pcm =? n * 4)
+          (λ _. tested P (length sheet =? n * 36) (λ _. ticks-of-fit w n d ram sheet v f (eqb-true _ _ e)) (λ _. f)) (λ _. f)) (λ _. f)) (λ _. f);
       run = run-fit;
-      part = part-fit;
+      part = λ d at left ram log pcm v b f.
+          let P : Parted → Type 0 = (λ a. IsFit (a .told .dsp)) in
+          tested P (length ram =? 0x10000) (λ e. tested P (fit d) (λ _. tested P (logRefusal at log =? 0)
+          (λ _. tested P (left =? 0) (λ _. next-fit (readAt log at) d at (length log) (moves log at) (byte-value log at b) f)
+          (λ _. tested P (length pcm <? 4) (λ _. f) (λ _. ticks-of-fit everything (ticksNow left (length pcm)) d ram [] v f (eqb-true _ _ e))))
+          (λ _. f)) (λ _. f)) (λ _. f);
       rework = rework-fit;
-      reworkNew = rework-new-fit;
+      reworkNew = λ s ram log₁ log₂ pcm sheet readings b₁ b₂.
+          let P : Left → Type 0 = (λ a. IsFit (a .dsp)) in
+          let o = runOf newDsp ram log₁ pcm sheet readings in
+          tested P (refusalOf s newDsp newDsp ram log₁ log₂ =? 0)
+          (λ _. tested P (o .refusal =? 0)
+          (λ _. rework-fit s newDsp (o .dsp) ram log₁ log₂ (o .pcm) (o .sheet) (o .readings) new-value b₂ new-fit (run-fit everything newDsp ram log₁ pcm sheet readings new-value b₁ new-fit))
+          (λ _. new-fit)) (λ _. new-fit);
     }

@@ -55,7 +55,7 @@ module _ (f : ℕ) (log : List ℕ) (at t q : ℕ) (few : t ≤ 32000) where
         ∙ sym (first-alone (faultFrom f log behind (t + ticksIn r)))
 
     few-told : (r : Record) (behind : ℕ) → ticksIn r ≡ 0 → told (On r behind) ≡ firstOf (faultFrom f log behind (t + ticksIn r) ∷ [])
-    few-told r behind z = on-told r behind (le-ltb 32000 (t + ticksIn r) (omega (arith, z)))
+    few-told r behind z = on-told r behind (le-ltb 32000 (t + ticksIn r) (omega arith))
 
     module _ (on : (length log ≤? at) ≡ false) (two : (length log <? at + 2) ≡ false) where
       write-said : told (writeRecord log at) ≡ said RW

@@ -1,15 +1,17 @@
 -- What is computed once: the programs that must not get through, each at an input of its own; and an instance of demand 3, two lessons
 -- that differ in the GAIN of voice 3, in which voice 4 joins late. While voice 3 is in the set and PMON selects voice 5, nothing joins;
 -- once PMON selects voice 4, that does, and voice 5 stays out.
-use mathlib.Core.Bool.{Bool, true, _&&_, true≢false}
+use mathlib.Core.Bool.{true, false, true≢false}
 use mathlib.Core.List.{List, [], _∷_}
 use mathlib.Core.Logic.{_≢_}
 use mathlib.Core.Path.{_≡_, refl, sym, ap, _∙_}
-use Prim.Native.Nat.{ℕ, zero, suc, _*_}
+use Prim.Native.Nat.{ℕ, _*_}
 use native.Mathlib.Omega.{arith}
 use lib.ListN.{getD, drop, replicate}
 use lib.Signed.{mag}
-use Rattle.numbers.specs.Choice.{_<?_}
+use borrow.Author.Tests.{eqb-false, ltb-true}
+use Rattle.numbers.specs.Choice.{_<?_, _=?_}
+use Rattle.numbers.proofs.Lists.{all-at}
 use Rattle.numbers.specs.Bits.{withBit}
 use Rattle.numbers.specs.Listed.{listed, turns, folded, all}
 use Rattle.sound.specs.Clock.{periods, periodOf}
@@ -34,7 +36,6 @@ use Rattle.dsp.specs.Ticks.{benchTick, ticksOf, stepOf}
 use Rattle.sound.specs.Sound.{firSum, firOf}
 use Rattle.dsp.specs.declared.voice.Voice.{Voice}
 use Rattle.dsp.specs.declared.registers.Dsp.{Dsp}
-use Rattle.dsp.proofs.Tests.{lt, _and_}
 use Rattle.log.specs.Log.{writeRecord, ticksRecord, readingRecord, byMark, readAt, decodeFrom, decode}
 use Rattle.log.specs.Measure.{measureOf}
 use Rattle.sitting.specs.Run.{Outcome, runOf, runMeasured, runWith}
@@ -45,7 +46,6 @@ use Rattle.rework.specs.Refusals.{firstOf}
 use Rattle.rework.specs.Demands.{Bytes, Reworks}
 use Rattle.rework.specs.NotThrough.{ram, put, ticks, ask, end, unclamped, NotThrough}
 use Rattle.rework.specs.Alike.{without, sameRecord, sameRecords, alike}
-use Rattle.rework.proofs.Bits.{itself}
 use Rattle.rework.proofs.Keeps.{new-value}
 use Rattle.rework.proofs.Demand3.{same-self, demand3}
 
@@ -100,8 +100,11 @@ pub record Seen : Type 0 where
   pub second-runs : run 0x40 .refusal ≡ 0
 
 -- two things that have different numbers
-differ-by : {A : Type 0} (f : A → ℕ) {x y : A} (m n : ℕ) → f x ≡ m → f y ≡ n → m ≢ n → x ≢ y
-differ-by f m n p q d = λ e. d (sym p ∙ ap f e ∙ q)
+differ-by : {A : Type 0} (f : A → ℕ) {x y : A} (m n : ℕ) → f x ≡ m → f y ≡ n → (m =? n) ≡ false → x ≢ y
+differ-by f m n p q d = λ e. eqb-false m n d (sym p ∙ ap f e ∙ q)
+
+abbrev byte : ℕ → List ℕ → ℕ
+byte n xs = getD xs n 0
 
 computed : Seen × NotThrough
 unfolding firstOf firSum firOf echoRead historyNow echoNow withVoice folded dryOf masterOf renderOf stepOf unclamped periods periodOf shifted byteAt wordAt decodeBlock fires countedOn storedFrom echoWritten lengthNow pointerNext echoMoved echoTick echoFrom echoLane attackTick gainTick phaseTick envelopeTick all fit keyedOff keyedOn waited noised sourceOf polledOf waitedOf cellAfter cellOf shownCell withBit putBytes added ownCell turned scaledOutput noiseTick turns writeParts writeAt writeOf pairBytes laneBytes turn voicesTick globalsTick tickOf benchTick ticksOf pitchOf positionOf samplesTaken placed decodedAt nextAddress nextBlock resolved pushed takeOne consume advanced interpolated sounded voiceStep writeRecord ticksRecord readingRecord byMark readAt decodeFrom decode measureOf play playAll runMeasured runWith without sameRecord sameRecords alike quiet joinedBy joinedOver members voicesIn listed picked refusalOf reworkOf
@@ -124,18 +127,18 @@ computed = (
     second-runs = refl;
   },
   record {
-    refusesAll = λ h. let e : _≡_ {A = ℕ} 2 0 = h .render newDsp .0 in absurd (omega (arith, e));
+    refusesAll = λ h. let e : _≡_ {A = ℕ} 2 0 = h .render newDsp .0 in absurd (omega arith);
     taken = (refl, refl, refl, refl);
-    sounds = differ-by (λ (xs : List ℕ). getD xs 0 0) 0xF4 0 refl refl (λ e. absurd (omega (arith, e)));
-    moves = differ-by (λ (xs : List ℕ). getD xs 0 0) 0xF4 0xFA refl refl (λ e. absurd (omega (arith, e)));
+    sounds = differ-by (byte 0) 0xF4 0 refl refl refl;
+    moves = differ-by (byte 0) 0xF4 0xFA refl refl refl;
     steps = λ e. true≢false (ap (λ (d : Dsp). d .«every_other_sample») e);
-    goesOn = differ-by (λ (xs : List ℕ). getD xs 0 0) 0xFC 0 refl refl (λ e. absurd (omega (arith, e)));
-    rewrites = differ-by (λ (xs : List ℕ). getD xs 182 0) 0x40 0x7F refl refl (λ e. absurd (omega (arith, e)));
+    goesOn = differ-by (byte 0) 0xFC 0 refl refl refl;
+    rewrites = differ-by (byte 182) 0x40 0x7F refl refl refl;
     counts = (refl, refl);
-    onlyNamed = differ-by (λ (xs : List ℕ). getD xs 4 0) 0x55 0 refl refl (λ e. absurd (omega (arith, e)));
-    clampsEach = differ-by (mag) 253 31753 refl refl (λ e. absurd (omega (arith, e)));
-    keepsOn = differ-by (λ (v : Voice). v .«pitch_counter») 0x1000 0 refl refl (λ e. absurd (omega (arith, e)));
-    untouched = differ-by (λ (xs : List ℕ). getD xs 0 0) 0x7F 0 refl refl (λ e. absurd (omega (arith, e)));
+    onlyNamed = differ-by (byte 4) 0x55 0 refl refl refl;
+    clampsEach = differ-by mag 253 31753 refl refl refl;
+    keepsOn = differ-by (λ (v : Voice). v .«pitch_counter») 0x1000 0 refl refl refl;
+    untouched = differ-by (byte 0) 0x7F 0 refl refl refl;
   },
 )
 
@@ -147,16 +150,11 @@ not-through = computed .1
 
 -- ---- so demand 3 speaks of it
 
-abbrev bytes : List ℕ → Bool
-bytes [] = true
-bytes (x ∷ xs) = (x <? 256) && bytes xs
-
-are-bytes : (xs : List ℕ) → bytes xs ≡ true → Bytes xs
-are-bytes [] e i = omega arith
-are-bytes (x ∷ xs) e zero = (lt x 256 and itself (bytes xs)) .sound e .0
-are-bytes (x ∷ xs) e (suc i) = are-bytes xs ((lt x 256 and itself (bytes xs)) .sound e .1) i
+are-bytes : (xs : List ℕ) → all (λ x. x <? 256) xs ≡ true → Bytes xs
+are-bytes xs e i = ltb-true _ _ (all-at (λ (x : ℕ). x <? 256) 0 xs e refl i)
 
 pub met : Reworks 0x08 newDsp (lesson 0x40) (run 0x7F) (run 0x40) again
+unfolding all
 met =
     demand3 0x08 newDsp newDsp ram (lesson 0x7F) (lesson 0x40) pcm sheet told pcm sheet told pcm told new-value new-value (are-bytes (lesson 0x7F) refl) (are-bytes (lesson 0x40) refl)
     (same-self 0x08 (apart newDsp)) (seen .logs) (seen .quiet-is) (seen .first-runs) (seen .second-runs) refl refl

@@ -1,24 +1,24 @@
 -- What ticks and writes keep, a play keeps; and so a run ends in a fit record whose ENDX byte is a byte.
-use mathlib.Core.Bool.{true}
+use mathlib.Core.Bool.{Bool, true}
 use mathlib.Core.List.{List, [], _∷_}
 use mathlib.Core.Logic.{_≢_}
-use mathlib.Core.Path.{_≡_, refl, sym, subst, _∙_}
+use mathlib.Core.Path.{_≡_, refl}
 use Prim.Native.Nat.{ℕ, zero, suc, _+_, _*_, _<_}
 use native.Mathlib.Omega.{arith}
+use lib.IntN.{ℤ}
 use lib.ListN.{getD, set, length, drop, replicate}
 use lib.Seq.{getD-set-other}
-use Rattle.numbers.specs.Choice.{if_then_else_, _=?_}
+use Rattle.numbers.specs.Choice.{_=?_}
 use Rattle.numbers.specs.Signed.{highZ}
 use Rattle.numbers.proofs.Choice.{chosen}
-use Rattle.numbers.specs.Bits.{bit, withBit}
+use Rattle.numbers.specs.Bits.{withBit}
 use Rattle.numbers.proofs.Bits.{with-byte}
 use Rattle.sound.specs.Sound.{to16}
 use Rattle.dsp.specs.Machine.{noVoice, Parts, apart, together}
 use Rattle.dsp.specs.PowerOn.{newVoice, newDsp}
 use Rattle.dsp.specs.Fit.{fit}
 use Rattle.dsp.specs.Registers.{at, resets, writeParts}
-use Rattle.dsp.specs.Sheet.{laneAt}
-use Rattle.dsp.specs.Lane.{Cell, putBytes, ownCell, shownCell, turned, Shared}
+use Rattle.dsp.specs.Lane.{putBytes, turned}
 use Rattle.dsp.specs.Tick.{Round, turn, voicesTick, sharedOf, startOf, tickOf}
 use Rattle.dsp.specs.Ticks.{Bench, benchTick}
 use Rattle.dsp.specs.declared.voice.Voice.{Voice}
@@ -48,24 +48,20 @@ pub record Whole (p : Parts) (ram : List ℕ) : Type 0 where
   pub endx : getD (p .registers) 0x7C 0 < 256
   pub room : length ram ≡ 0x10000
 
-endx-turn : (mask : ℕ) (old : List ℕ) (c : Shared) (ram : List ℕ) (j : ℕ) (r : Round) → j < 8 → getD (r .bytes) 0x7C 0 < 256 → getD (turn mask old c ram j r .bytes) 0x7C 0 < 256
-unfolding turn turned putBytes
-endx-turn mask old c ram j r l h =
-    let b = r .bytes in
-    let n : 0x7C ≢ j * 16 + 8 = (λ e. absurd (omega (arith, l, e))) in
-    let m : 0x7C ≢ j * 16 + 9 = (λ e. absurd (omega (arith, l, e))) in
-    let x : Cell = if bit mask j then ownCell c ram j (r .sums .prev) (getD (r .voices) j noVoice) (getD (r .delays) j 0) b else shownCell (laneAt j old) (getD (r .voices) j noVoice) (getD (r .delays) j 0) in
-    let y = set b (j * 16 + 8) (x .envx) in
-    let z = set y (j * 16 + 9) (highZ (x .out)) in
-    let e : getD z 0x7C 0 ≡ getD b 0x7C 0 = getD-set-other y (j * 16 + 9) 0x7C (highZ (x .out)) 0 m ∙ getD-set-other b (j * 16 + 8) 0x7C (x .envx) 0 n in
-    let k : getD z 0x7C 0 < 256 = subst (λ (v : ℕ). v < 256) (sym e) h in
-    set-keeps (λ (v : ℕ). v < 256) 0 z 0x7C (withBit (getD z 0x7C 0) j (x .endx)) (with-byte (getD z 0x7C 0) j (x .endx) k l) 0x7C k
+endx-put : (j envx : ℕ) (out : ℤ) (endx : Bool) (b : List ℕ) → j < 8 → getD b 0x7C 0 < 256 → getD (putBytes j envx out endx b) 0x7C 0 < 256
+unfolding putBytes
+endx-put j envx out endx b l h =
+    let n : 0x7C ≢ j * 16 + 8 = (λ e. absurd (omega arith)) in
+    let m : 0x7C ≢ j * 16 + 9 = (λ e. absurd (omega arith)) in
+    let z = set (set b (j * 16 + 8) envx) (j * 16 + 9) (highZ out) in
+    let k : getD z 0x7C 0 < 256 = simp getD-set-other h in
+    set-keeps (λ (v : ℕ). v < 256) 0 z 0x7C (withBit (getD z 0x7C 0) j endx) (with-byte (getD z 0x7C 0) j endx k l) 0x7C k
 
 endx-tick : (w : Work) (old : List ℕ) (p : Parts) (ram : List ℕ) → getD (p .registers) 0x7C 0 < 256 → getD (tickOf w old p ram .parts .registers) 0x7C 0 < 256
-unfolding tickOf voicesTick
+unfolding tickOf voicesTick turn turned
 endx-tick w old p ram h =
     let c = sharedOf (p .globals) (p .registers) in
-    turns-keep (λ (r : Round). getD (r .bytes) 0x7C 0 < 256) (turn (w .voices) old c ram) 8 (endx-turn (w .voices) old c ram) 8 (startOf p) (omega arith) h
+    turns-keep (λ (r : Round). getD (r .bytes) 0x7C 0 < 256) (turn (w .voices) old c ram) 8 (λ j r l. endx-put j _ _ _ (r .bytes) l) 8 (startOf p) (omega arith) h
 
 endx-write : (i x : ℕ) (p : Parts) → x < 256 → getD (p .registers) 0x7C 0 < 256 → getD (writeParts i x p .registers) 0x7C 0 < 256
 unfolding writeParts

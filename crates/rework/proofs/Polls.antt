@@ -1,47 +1,32 @@
 -- Every voice polled first, then the noise, then the voices: the same tick as `tickOf`, which polls each voice in its lane. A poll of a voice
 -- passes over the steps of the voices before it, and with its own step makes its turn.
-use mathlib.Core.Bool.{Bool, true, false}
-use mathlib.Core.List.{List, [], _∷_, _++_}
+use mathlib.Core.Bool.{Bool, false}
+use mathlib.Core.List.{List, [], _++_}
 use mathlib.Core.Logic.{_≢_}
-use mathlib.Core.Path.{_≡_, refl, sym, ap, subst, _∙_}
+use mathlib.Core.Path.{_≡_, refl, sym, ap, _∙_}
 use Prim.Native.Nat.{ℕ, zero, suc, _+_, _*_, _^_, _≤_, _<_}
 use native.Mathlib.Nat.{zero-div}
 use native.Mathlib.Omega.{arith}
 use native.Mathlib.Decide.{ℕ-discrete}
 use lib.IntN.{ℤ}
 use lib.ListN.{getD, set, length, length-set}
-use lib.Seq.{getD-set-same, getD-set-other}
+use lib.Seq.{getD-set-same, getD-set-other, set-getD, set-set, set-comm}
 use Rattle.numbers.specs.Choice.{if_then_else_}
-use Rattle.numbers.specs.Signed.{highZ}
-use Rattle.numbers.proofs.Choice.{chosen}
+use Rattle.numbers.proofs.Choice.{tested, chosen, chosen-both}
 use Rattle.numbers.specs.Bits.{bit, withBit}
 use Rattle.numbers.proofs.Bits.{bit-here, bit-there, with-byte, byte-ext}
 use Rattle.numbers.specs.Listed.{turns}
 use Rattle.dsp.specs.Machine.{noVoice, apart}
 use Rattle.dsp.specs.Keys.{keyedOff, keyedOn, polledVoice, polledEndx, polledDelay}
 use Rattle.dsp.specs.Voice.{Sounding}
-use Rattle.dsp.specs.Sheet.{laneBytes}
 use Rattle.dsp.specs.Lane.{waited, sourceOf, Cell, polledOf, waitedOf, cellAfter, cellOf, putEndx, putBytes, added, ownCell, turned, Shared}
 use Rattle.dsp.specs.Tick.{Round, turn, voicesTick, globalsTick, sharedOf, startOf, tickOf}
 use Rattle.dsp.specs.declared.voice.Voice.{Voice}
 use Rattle.numbers.proofs.Turns.{turns-keep, turns-same}
 use Rattle.dsp.proofs.Whole.{full, tick-whole}
 use Rattle.rework.specs.Order.{Polled, pollOne, polledParts, echoBehind, PollFirst}
-use Rattle.rework.proofs.Shows.{put-sized, put-endx}
-
--- ---- stores
-
-set-set : {A : Type 0} (xs : List A) (n : ℕ) (x y : A) → set (set xs n x) n y ≡ set xs n y
-set-set [] n x y = refl
-set-set (z ∷ xs) zero x y = refl
-set-set (z ∷ xs) (suc n) x y = ap (λ (l : List _). z ∷ l) (set-set xs n x y)
-
-set-swap : {A : Type 0} (xs : List A) (n m : ℕ) (x y : A) → n ≢ m → set (set xs n x) m y ≡ set (set xs m y) n x
-set-swap [] n m x y h = refl
-set-swap (z ∷ xs) zero zero x y h = absurd (h refl)
-set-swap (z ∷ xs) zero (suc m) x y h = refl
-set-swap (z ∷ xs) (suc n) zero x y h = refl
-set-swap (z ∷ xs) (suc n) (suc m) x y h = ap (λ (l : List _). z ∷ l) (set-swap xs n m x y (λ e. h (ap suc e)))
+use Rattle.rework.proofs.Lanes.{cellIn, slotOf}
+use Rattle.rework.proofs.Shows.{shown, shown-sized, put-over, put-is, put-sized, put-endx}
 
 -- ---- bits of a byte
 
@@ -66,6 +51,26 @@ with-swap x n j a b l m q d =
             | no e ↦ bit-there x j k a e ∙ sym (bit-there (withBit x n b) j k a e ∙ bit-there x n k b p)
           ]
     ])
+
+-- ---- rounds
+
+-- what a cell of voice n leaves of a round
+abbrev put : Shared → ℕ → Round → Cell → Round
+put c n r x =
+    record {
+      voices = set (r .voices) n (x .voice);
+      delays = set (r .delays) n (x .delay);
+      bytes = putBytes n (x .envx) (x .out) (x .endx) (r .bytes);
+      sums = added (bit (c .eon) n) (x .out) (x .voice .«left_vol») (x .voice .«right_vol») (r .sums);
+      row = r .row ++ slotOf x;
+    }
+
+abbrev worked : Shared → List ℕ → ℕ → Round → Round
+worked c ram n r = put c n r (cellIn c ram n r)
+
+turn-is : (c : Shared) (ram : List ℕ) (n : ℕ) (r : Round) → n < 8 → turn 0xFF [] c ram n r ≡ worked c ram n r
+unfolding turn turned
+turn-is c ram n r l = rw (full n l)
 
 -- ---- a poll, and the step behind it
 
@@ -93,33 +98,12 @@ module _ (c : Shared) (ram : List ℕ) where
       (λ b. cellAfter c n (waited ram (c .dir) srcn (sourceOf (c .pmon) n prev) envx (polledDelay b (polledDelay (on n) delay)) (record { voice = polledVoice b b (c .«dir_base») (s .voice); endx = polledEndx b (s .endx) }))) in
       ap by (no-bit n)
 
-  -- ---- rounds
-
-  -- what a cell of voice n leaves of a round
-  abbrev put : ℕ → Round → Cell → Round
-  put n r x =
-      record {
-        voices = set (r .voices) n (x .voice);
-        delays = set (r .delays) n (x .delay);
-        bytes = putBytes n (x .envx) (x .out) (x .endx) (r .bytes);
-        sums = added (bit (c .eon) n) (x .out) (x .voice .«left_vol») (x .voice .«right_vol») (r .sums);
-        row = r .row ++ laneBytes (x .out) (x .envx) (x .endx);
-      }
-
   -- a turn in which the voice polls itself, and one behind the poll
   abbrev whole : ℕ → Round → Round
-  whole n r = put n r (ownCell c ram n (r .sums .prev) (getD (r .voices) n noVoice) (getD (r .delays) n 0) (r .bytes))
+  whole = worked c ram
 
   abbrev step : ℕ → Round → Round
-  step n r = put n r (ownCell (behind c) ram n (r .sums .prev) (getD (r .voices) n noVoice) (getD (r .delays) n 0) (r .bytes))
-
-  turn-is : (old : List ℕ) (n : ℕ) (r : Round) → n < 8 → turn 0xFF old c ram n r ≡ whole n r
-  unfolding turn turned
-  turn-is old n r l = rw (full n l)
-
-  step-is : (old : List ℕ) (n : ℕ) (r : Round) → n < 8 → turn 0xFF old (behind c) ram n r ≡ step n r
-  unfolding turn turned
-  step-is old n r l = rw (full n l)
+  step = worked (behind c) ram
 
   -- the poll of voice j in a round
   abbrev in-round : Round → Polled → Round
@@ -139,94 +123,75 @@ module _ (c : Shared) (ram : List ℕ) where
 
   -- ---- the registers
 
-  -- ENVX and OUTX of voice n
-  abbrev outs : ℕ → ℕ → ℤ → List ℕ → List ℕ
-  outs n envx out bytes = set (set bytes (n * 16 + 8) envx) (n * 16 + 9) (highZ out)
+  -- a poll stores into ENDX alone
+  abbrev cleared : ℕ → ℕ → ℕ
+  cleared j w =
+      if on j then withBit w j false else
+      w
 
-  -- ENVX, OUTX and the ENDX bit, over any ENDX byte w
-  put-over : (n envx : ℕ) (out : ℤ) (endx : Bool) (bytes : List ℕ) (w : ℕ) → n < 8 → length bytes ≡ 128
-      → putBytes n envx out endx (set bytes 0x7C w) ≡ set (outs n envx out bytes) 0x7C (withBit w n endx)
-  unfolding putBytes
-  put-over n envx out endx bytes w l z =
-      let o = outs n envx out bytes in
-      let e : outs n envx out (set bytes 0x7C w) ≡ set o 0x7C w =
-      ap (λ (xs : List ℕ). set xs (n * 16 + 9) (highZ out)) (set-swap bytes 0x7C (n * 16 + 8) w envx (λ q. absurd (omega (arith, l, q))))
-      ∙ set-swap (set bytes (n * 16 + 8) envx) 0x7C (n * 16 + 9) w (highZ out) (λ q. absurd (omega (arith, l, q))) in
-      let s : length o ≡ 128 = length-set (set bytes (n * 16 + 8) envx) (n * 16 + 9) (highZ out) ∙ length-set bytes (n * 16 + 8) envx ∙ z in
-      ap (λ (xs : List ℕ). set xs 0x7C (withBit (getD xs 0x7C 0) n endx)) e
-      ∙ set-set o 0x7C w (withBit (getD (set o 0x7C w) 0x7C 0) n endx)
-      ∙ ap (λ (x : ℕ). set o 0x7C (withBit x n endx)) (getD-set-same o 0x7C w 0 (omega (arith, s)))
+  abbrev polled : ℕ → List ℕ → List ℕ
+  polled j bytes =
+      if on j then putEndx j false bytes else
+      bytes
 
-  put-is : (n envx : ℕ) (out : ℤ) (endx : Bool) (bytes : List ℕ) → n < 8 → putBytes n envx out endx bytes ≡ set (outs n envx out bytes) 0x7C (withBit (getD bytes 0x7C 0) n endx)
-  unfolding putBytes
-  put-is n envx out endx bytes l =
-      ap (λ (x : ℕ). set (outs n envx out bytes) 0x7C (withBit x n endx))
-      (getD-set-other (set bytes (n * 16 + 8) envx) (n * 16 + 9) 0x7C (highZ out) 0 (λ q. absurd (omega (arith, l, q)))
-      ∙ getD-set-other bytes (n * 16 + 8) 0x7C envx 0 (λ q. absurd (omega (arith, l, q))))
-
-  -- the poll of the voice itself, under its step
-  put-own : (b : Bool) (n envx : ℕ) (out : ℤ) (endx : Bool) (bytes : List ℕ) → n < 8 → length bytes ≡ 128 → getD bytes 0x7C 0 < 256
-      → putBytes n envx out endx (if b then putEndx n false bytes else bytes) ≡ putBytes n envx out endx bytes
-  put-own true n envx out endx bytes l z h =
-      put-over n envx out endx bytes (withBit (getD bytes 0x7C 0) n false) l z
-      ∙ ap (set (outs n envx out bytes) 0x7C) (with-over (getD bytes 0x7C 0) n false endx h l) ∙ sym (put-is n envx out endx bytes l)
-  put-own false n envx out endx bytes l z h = refl
-
-  -- the poll of another passes over it
-  put-past : (b : Bool) (n j envx : ℕ) (out : ℤ) (endx : Bool) (bytes : List ℕ) → n < 8 → j < 8 → n ≢ j → length bytes ≡ 128 → getD bytes 0x7C 0 < 256
-      → putBytes n envx out endx (if b then putEndx j false bytes else bytes) ≡ (if b then putEndx j false (putBytes n envx out endx bytes) else putBytes n envx out endx bytes)
-  put-past true n j envx out endx bytes l m d z h =
-      let x = getD bytes 0x7C 0 in
-      let o = outs n envx out bytes in
-      let s : length o ≡ 128 = length-set (set bytes (n * 16 + 8) envx) (n * 16 + 9) (highZ out) ∙ length-set bytes (n * 16 + 8) envx ∙ z in
-      put-over n envx out endx bytes (withBit x j false) l z
-      ∙ ap (set o 0x7C) (with-swap x n j false endx h l m d)
-      ∙ sym
-      (ap (putEndx j false) (put-is n envx out endx bytes l)
-      ∙ set-set o 0x7C (withBit x n endx) (withBit (getD (set o 0x7C (withBit x n endx)) 0x7C 0) j false)
-      ∙ ap (λ (y : ℕ). set o 0x7C (withBit y j false)) (getD-set-same o 0x7C (withBit x n endx) 0 (omega (arith, s))))
-  put-past false n j envx out endx bytes l m d z h = refl
-
-  -- ---- what a poll leaves of the registers
+  poll-is : (j : ℕ) (bytes : List ℕ) → polled j bytes ≡ set bytes 0x7C (cleared j (getD bytes 0x7C 0))
+  poll-is j bytes = tested (λ (xs : List ℕ). xs ≡ set bytes 0x7C (cleared j (getD bytes 0x7C 0))) (on j) (λ e. rw e) (λ e. rw e (sym (set-getD bytes 0x7C 0)))
 
   -- any byte but ENDX
-  poll-byte : (b : Bool) (j i : ℕ) (bytes : List ℕ) → i ≢ 0x7C → getD (if b then putEndx j false bytes else bytes) i 0 ≡ getD bytes i 0
-  poll-byte true j i bytes h = getD-set-other bytes 0x7C i (withBit (getD bytes 0x7C 0) j false) 0 h
-  poll-byte false j i bytes h = refl
+  poll-byte : (j i : ℕ) (bytes : List ℕ) → i ≢ 0x7C → getD (polled j bytes) i 0 ≡ getD bytes i 0
+  poll-byte j i bytes h = rw (poll-is j bytes) (getD-set-other bytes 0x7C i _ 0 h)
 
-  poll-own : (b : Bool) (n : ℕ) (bytes : List ℕ) → n < 8 → length bytes ≡ 128
-      → bit (getD (if b then putEndx n false bytes else bytes) 0x7C 0) n ≡ (if b then false else bit (getD bytes 0x7C 0) n)
-  poll-own true n bytes l z =
-      ap (λ (x : ℕ). bit x n) (getD-set-same bytes 0x7C (withBit (getD bytes 0x7C 0) n false) 0 (omega (arith, z))) ∙ bit-here (getD bytes 0x7C 0) n false
-  poll-own false n bytes l z = refl
+  module _ (bytes : List ℕ) (z : length bytes ≡ 128) where
+    poll-endx : (j : ℕ) → getD (polled j bytes) 0x7C 0 ≡ cleared j (getD bytes 0x7C 0)
+    poll-endx j = rw (poll-is j bytes) (getD-set-same bytes 0x7C _ 0 (omega arith))
 
-  poll-past : (b : Bool) (n j : ℕ) (bytes : List ℕ) → n < 8 → j < 8 → n ≢ j → length bytes ≡ 128
-      → bit (getD (if b then putEndx j false bytes else bytes) 0x7C 0) n ≡ bit (getD bytes 0x7C 0) n
-  poll-past true n j bytes l m d z =
-      ap (λ (x : ℕ). bit x n) (getD-set-same bytes 0x7C (withBit (getD bytes 0x7C 0) j false) 0 (omega (arith, z))) ∙ bit-there (getD bytes 0x7C 0) j n false d
-  poll-past false n j bytes l m d z = refl
+    poll-own : (n : ℕ) → bit (getD (polled n bytes) 0x7C 0) n ≡ (if on n then false else bit (getD bytes 0x7C 0) n)
+    poll-own n =
+        let x = getD bytes 0x7C 0 in
+        rw (poll-endx n) (tested (λ (y : ℕ). bit y n ≡ (if on n then false else bit x n)) (on n) (λ e. rw e (bit-here x n false)) (λ e. rw e))
+
+    poll-past : (n j : ℕ) → n ≢ j → bit (getD (polled j bytes) 0x7C 0) n ≡ bit (getD bytes 0x7C 0) n
+    poll-past n j d =
+        let x = getD bytes 0x7C 0 in
+        rw (poll-endx j) (chosen (λ (y : ℕ). bit y n ≡ bit x n) (on j) (bit-there x j n false d) refl)
+
+    -- ENVX, OUTX and the ENDX bit of voice n over a poll
+    module _ (n envx : ℕ) (out : ℤ) (endx : Bool) (l : n < 8) (h : getD bytes 0x7C 0 < 256) where
+      -- of the voice itself, under its step
+      put-own : putBytes n envx out endx (polled n bytes) ≡ putBytes n envx out endx bytes
+      put-own =
+          let x = getD bytes 0x7C 0 in
+          rw (poll-is n bytes, put-over n envx out endx bytes l z (cleared n x), put-is n envx out endx bytes l z)
+          (ap (set (shown n envx out endx bytes l z) 0x7C) (chosen (λ (y : ℕ). withBit y n endx ≡ withBit x n endx) (on n) (with-over x n false endx h l) refl))
+
+      -- of another, which passes over it
+      put-past : (j : ℕ) → j < 8 → n ≢ j → putBytes n envx out endx (polled j bytes) ≡ polled j (putBytes n envx out endx bytes)
+      put-past j m d =
+          let x = getD bytes 0x7C 0 in
+          let o = shown n envx out endx bytes l z in
+          let y = withBit x n endx in
+          rw (put-is n envx out endx bytes l z, poll-is j (set o 0x7C y), poll-is j bytes, put-over n envx out endx bytes l z (cleared j x))
+          (rw (set-set, getD-set-same o 0x7C y 0 (omega (arith, shown-sized n envx out endx bytes l z)))
+          (ap (set o 0x7C) (chosen-both (λ (v w : ℕ). withBit v n endx ≡ w) (on j) (with-swap x n j false endx h l m d) refl)))
 
   -- ---- lengths
 
-  sized-put : (n : ℕ) (r : Round) (x : Cell) → n < 8 → Sized r → Sized (put n r x)
+  sized-put : (n : ℕ) (r : Round) (x : Cell) → n < 8 → Sized r → Sized (put c n r x)
   sized-put n r x l h =
       record {
         voices = length-set (r .voices) n (x .voice) ∙ h .voices;
         delays = length-set (r .delays) n (x .delay) ∙ h .delays;
         bytes = put-sized n (x .envx) (x .out) (x .endx) (r .bytes) l (h .bytes);
-        endx = subst (λ (y : ℕ). y < 256) (sym (put-endx n (x .envx) (x .out) (x .endx) (r .bytes) l (h .bytes))) (with-byte (getD (r .bytes) 0x7C 0) n (x .endx) (h .endx) l);
+        endx = rw (put-endx n (x .envx) (x .out) (x .endx) (r .bytes) l (h .bytes)) (with-byte (getD (r .bytes) 0x7C 0) n (x .endx) (h .endx) l);
       }
 
   sized-poll : (j : ℕ) (r : Round) → j < 8 → Sized r → Sized (poll j r)
   sized-poll j r l h =
-      let w = withBit (getD (r .bytes) 0x7C 0) j false in
       record {
         voices = length-set (r .voices) j _ ∙ h .voices;
         delays = length-set (r .delays) j _ ∙ h .delays;
-        bytes = chosen (λ (xs : List ℕ). length xs ≡ 128) (on j) (length-set (r .bytes) 0x7C w ∙ h .bytes) (h .bytes);
-        endx =
-            chosen (λ (xs : List ℕ). getD xs 0x7C 0 < 256) (on j)
-            (subst (λ (y : ℕ). y < 256) (sym (getD-set-same (r .bytes) 0x7C w 0 (omega (arith, h .bytes)))) (with-byte (getD (r .bytes) 0x7C 0) j false (h .endx) l)) (h .endx);
+        bytes = rw (poll-is j (r .bytes)) (length-set (r .bytes) 0x7C _ ∙ h .bytes);
+        endx = rw (poll-endx (r .bytes) (h .bytes) j) (chosen (λ (y : ℕ). y < 256) (on j) (with-byte (getD (r .bytes) 0x7C 0) j false (h .endx) l) (h .endx));
       }
 
   -- ---- a poll and a step
@@ -241,17 +206,17 @@ module _ (c : Shared) (ram : List ℕ) where
       let d = polledDelay (on n) (getD (r .delays) n 0) in
       let ev = getD-set-same (r .voices) n w noVoice (omega (arith, h .voices)) in
       let ed = getD-set-same (r .delays) n d 0 (omega (arith, h .delays)) in
-      let es = poll-byte (on n) n (n * 16 + 4) b (λ q. absurd (omega (arith, l, q))) in
-      let ex = poll-byte (on n) n (n * 16 + 8) b (λ q. absurd (omega (arith, l, q))) in
-      let ee = poll-own (on n) n b l (h .bytes) in
-      let x = ownCell c ram n (r .sums .prev) v (getD (r .delays) n 0) b in
-      ap (put n (poll n r))
+      let es = poll-byte n (n * 16 + 4) b (λ q. absurd (omega arith)) in
+      let ex = poll-byte n (n * 16 + 8) b (λ q. absurd (omega arith)) in
+      let ee = poll-own b (h .bytes) n in
+      let x = cellIn c ram n r in
+      ap (put c n (poll n r))
       ((λ i. cellOf (behind c) ram n (r .sums .prev) (ev i) (ed i) (es i) (ex i) (ee i))
       ∙ cell-behind n (r .sums .prev) v (getD (r .delays) n 0) (getD b (n * 16 + 4) 0) (getD b (n * 16 + 8) 0) (bit (getD b 0x7C 0) n))
       ∙ (λ i. record {
         voices = set-set (r .voices) n w (x .voice) i;
         delays = set-set (r .delays) n d (x .delay) i;
-        bytes = put-own (on n) n (x .envx) (x .out) (x .endx) b l (h .bytes) (h .endx) i;
+        bytes = put-own b (h .bytes) n (x .envx) (x .out) (x .endx) l (h .endx) i;
         sums = whole n r .sums;
         row = whole n r .row;
       })
@@ -262,24 +227,24 @@ module _ (c : Shared) (ram : List ℕ) where
   passed n j r q m h =
       let b = r .bytes in
       let l : n < 8 = omega arith in
-      let far : n ≢ j = (λ e. absurd (omega (arith, q, e))) in
+      let far : n ≢ j = (λ e. absurd (omega arith)) in
       let w : Voice → Voice = polledVoice (off j) (on j) (c .«dir_base») in
       let ev = getD-set-other (r .voices) j n (w (getD (r .voices) j noVoice)) noVoice far in
       let ed = getD-set-other (r .delays) j n (polledDelay (on j) (getD (r .delays) j 0)) 0 far in
-      let es = poll-byte (on j) j (n * 16 + 4) b (λ e. absurd (omega (arith, l, e))) in
-      let ex = poll-byte (on j) j (n * 16 + 8) b (λ e. absurd (omega (arith, l, e))) in
-      let ee = poll-past (on j) n j b l m far (h .bytes) in
-      let x = ownCell (behind c) ram n (r .sums .prev) (getD (r .voices) n noVoice) (getD (r .delays) n 0) b in
+      let es = poll-byte j (n * 16 + 4) b (λ e. absurd (omega arith)) in
+      let ex = poll-byte j (n * 16 + 8) b (λ e. absurd (omega arith)) in
+      let ee = poll-past b (h .bytes) n j far in
+      let x = cellIn (behind c) ram n r in
       let back : j ≢ n = (λ e. far (sym e)) in
-      ap (put n (poll j r)) (λ i. cellOf (behind c) ram n (r .sums .prev) (ev i) (ed i) (es i) (ex i) (ee i))
+      ap (put c n (poll j r)) (λ i. cellOf (behind c) ram n (r .sums .prev) (ev i) (ed i) (es i) (ex i) (ee i))
       ∙ (λ i. record {
         voices =
-            (set-swap (r .voices) j n (w (getD (r .voices) j noVoice)) (x .voice) back
+            (set-comm (r .voices) j n (w (getD (r .voices) j noVoice)) (x .voice) back
             ∙ ap (λ (v : Voice). set (set (r .voices) n (x .voice)) j (w v)) (sym (getD-set-other (r .voices) n j (x .voice) noVoice back))) i;
         delays =
-            (set-swap (r .delays) j n (polledDelay (on j) (getD (r .delays) j 0)) (x .delay) back
+            (set-comm (r .delays) j n (polledDelay (on j) (getD (r .delays) j 0)) (x .delay) back
             ∙ ap (λ (v : ℕ). set (set (r .delays) n (x .delay)) j (polledDelay (on j) v)) (sym (getD-set-other (r .delays) n j (x .delay) 0 back))) i;
-        bytes = put-past (on j) n j (x .envx) (x .out) (x .endx) b l m far (h .bytes) (h .endx) i;
+        bytes = put-past b (h .bytes) n (x .envx) (x .out) (x .endx) l (h .endx) j m far i;
         sums = step n r .sums;
         row = step n r .row;
       })
@@ -299,19 +264,18 @@ module _ (c : Shared) (ram : List ℕ) where
   -- n steps behind all polls are n turns that poll themselves, and the polls of the others
   steps-turns : (n k : ℕ) (r : Round) → k + n ≡ 8 → Sized r → turns step n (rest 8 0 r) ≡ rest k n (turns whole n r)
   unfolding turns
-  steps-turns zero k r e h = let f : 8 ≡ k = omega (arith, e) in ap (λ (i : ℕ). rest i 0 r) f
+  steps-turns zero k r e h = let f : 8 ≡ k = omega arith in ap (λ (i : ℕ). rest i 0 r) f
   steps-turns (suc n) k r e h =
       let a = turns whole n r in
-      let s = turns-keep Sized whole 8 (λ j t l i. sized-put j t _ l i) n r (omega (arith, e)) h in
-      ap (step n) (steps-turns n (suc k) r (omega (arith, e)) h)
-      ∙ rest-passed k (suc n) n (poll n a) (omega arith) (omega (arith, e)) (sized-poll n a (omega (arith, e)) s)
-      ∙ ap (rest k (suc n)) (fused n a (omega (arith, e)) s)
+      let s = turns-keep Sized whole 8 (λ j t l i. sized-put j t _ l i) n r (omega arith) h in
+      ap (step n) (steps-turns n (suc k) r (omega arith) h)
+      ∙ rest-passed k (suc n) n (poll n a) (omega arith) (omega arith) (sized-poll n a (omega arith) s)
+      ∙ ap (rest k (suc n)) (fused n a (omega arith) s)
 
   polls-first : (r : Round) → Sized r → turns (turn 0xFF [] (behind c) ram) 8 (rest 8 0 r) ≡ turns (turn 0xFF [] c ram) 8 r
   polls-first r h =
-      turns-same (turn 0xFF [] (behind c) ram) step 8 (λ n s l. step-is [] n s l) 8 (rest 8 0 r) (omega arith)
-      ∙ steps-turns 8 0 r (omega arith) h
-      ∙ sym (turns-same (turn 0xFF [] c ram) whole 8 (λ n s l. turn-is [] n s l) 8 r (omega arith))
+      turns-same (turn 0xFF [] (behind c) ram) step 8 (turn-is (behind c) ram) 8 (rest 8 0 r) (omega arith) ∙ steps-turns 8 0 r (omega arith) h
+      ∙ sym (turns-same (turn 0xFF [] c ram) whole 8 (turn-is c ram) 8 r (omega arith))
 
 -- ---- the tick
 
@@ -319,7 +283,7 @@ module _ (c : Shared) (ram : List ℕ) where
 dir-kept : (koff kon dir : ℕ) (p : Polled) → getD (turns (pollOne koff kon dir) 8 p .registers) 0x5D 0 ≡ getD (p .registers) 0x5D 0
 dir-kept koff kon dir p =
     turns-keep (λ (q : Polled). getD (q .registers) 0x5D 0 ≡ getD (p .registers) 0x5D 0) (pollOne koff kon dir) 8
-    (λ j q l h. chosen (λ (xs : List ℕ). getD xs 0x5D 0 ≡ getD (p .registers) 0x5D 0) (bit kon j) (getD-set-other (q .registers) 0x7C 0x5D _ 0 (λ e. absurd (omega (arith, e))) ∙ h) h)
+    (λ j q l h. chosen (λ (xs : List ℕ). getD xs 0x5D 0 ≡ getD (p .registers) 0x5D 0) (bit kon j) (getD-set-other (q .registers) 0x7C 0x5D _ 0 (λ e. absurd (omega arith)) ∙ h) h)
     8 p (omega arith) refl
 
 pub poll-first : PollFirst

@@ -1,18 +1,15 @@
--- By which number each entry refuses, and what a refused call leaves: demand 1, but for the rework of two sittings from `new`.
+-- By which number an entry refuses, and what a refused call leaves: an answer by tests in their order; and so a run, a part and a rework.
 use mathlib.Core.Bool.{Bool, true, false, not, _&&_}
-use mathlib.Core.List.{List, [], _∷_, _++_}
+use mathlib.Core.List.{List, [], _∷_}
 use mathlib.Core.Logic.{_≢_}
 use mathlib.Core.Path.{_≡_, refl, sym, ap, _∙_}
-use Prim.Native.Nat.{ℕ, _+_, _*_}
-use lib.IntN.{pos}
+use Prim.Native.Nat.{ℕ, zero, suc, _+_, _*_}
 use lib.ListN.{length}
-use borrow.Author.Tests.{eqb-true, eq-eqb, not-true, not-false}
+use native.Mathlib.Omega.{arith}
+use borrow.Author.Tests.{eqb-true, eq-eqb, ne-eqb}
 use Rattle.numbers.specs.Choice.{if_then_else_, _<?_, _=?_}
 use Rattle.numbers.proofs.Choice.{tested}
 use Rattle.dsp.specs.Fit.{fit}
-use Rattle.dsp.specs.Registers.{Written, writeOf}
-use Rattle.dsp.specs.Mix.{Rendered, renderOf}
-use Rattle.dsp.specs.Ticks.{After, refused, stepOf, Drove, drove, undriven, benchOf, ticksOf, driveOf}
 use Rattle.dsp.specs.declared.registers.Dsp.{Dsp}
 use Rattle.dsp.specs.declared.tick.Work.{Work}
 use Rattle.log.specs.Log.{readAt, decode}
@@ -22,83 +19,57 @@ use Rattle.log.specs.declared.Record.the-variants.{Write, Ticks, Reading}
 use Rattle.log.specs.declared.Next.{Next}
 use Rattle.log.specs.declared.Next.the-variants.{On, Off}
 use Rattle.log.specs.declared.Measured.{Measured}
-use Rattle.sitting.specs.Run.{Outcome, unrun, runMeasured, runWith}
+use Rattle.sitting.specs.Run.{unrun, runMeasured, runWith}
 use Rattle.sitting.specs.Parts.{Told, Parted, untold, unparted, stopAt, recordAt, nextAt, ticksNow, sounding, logRefusal, partOf}
-use Rattle.rework.specs.Refusals.{_when_, firstOf, ramIsNotWhole, isUnfit, isTooLong, isNotAsLong, faultOf}
+use Rattle.rework.specs.Refusals.{_when_, firstOf, ramIsNotWhole, isUnfit, isTooLong, faultOf}
 use Rattle.rework.specs.Alike.{alike}
 use Rattle.rework.specs.Members.{modesOf, quiet}
 use Rattle.rework.specs.Rework.{setOf, only, Left, unreworked, refusalOf, reworkOf}
 use Rattle.rework.specs.Demands.{Exactly, ofRoom, ofRun, stopIn, ofPart, ofRework}
-use Rattle.rework.proofs.Faults.{first-two, measure-said}
+use Rattle.rework.proofs.Faults.{first-alone, first-two, measure-said}
 use Rattle.rework.proofs.Passed.{passed}
 
--- ---- the first that applies
+-- ---- an answer by tests, one behind the other
 
-pub first-append : (ks ls : List ℕ) → firstOf (ks ++ ls) ≡ (if firstOf ks =? 0 then firstOf ls else firstOf ks)
-unfolding firstOf
-first-append [] ls = refl
-first-append (k ∷ ks) ls =
-    tested (λ (n : ℕ). n ≡ (if (if k =? 0 then firstOf ks else k) =? 0 then firstOf ls else (if k =? 0 then firstOf ks else k))) (k =? 0)
-    (λ e. rw e (first-append ks ls)) (λ e. rw (e, e))
+-- as `Exactly` says of an answer x
+pub record Answers {A : Type 0} (refusal : A → ℕ) (left : ℕ → A) (x : A) (conditions : List ℕ) : Type 0 where
+  pub said : refusal x ≡ firstOf conditions
+  pub back : refusal x ≢ 0 → x ≡ left (refusal x)
 
--- ---- an answer by a test
+pub exactly : {A : Type 0} (left : ℕ → A) (refusal : A → ℕ) {x : A} {conditions : List ℕ} → Answers refusal left x conditions → Exactly refusal x conditions left
+exactly left refusal h = (h .said, h .back)
 
-module _ {A : Type 0} (refusal : A → ℕ) (left : ℕ → A) (conditions : List ℕ) where
-  -- a refusal, by a number that is the first to apply
-  pub refusing : (k : ℕ) → refusal (left k) ≡ k → firstOf conditions ≡ k → Exactly refusal (left k) conditions left
-  refusing k e f = (e ∙ sym f, λ _. ap left (sym e))
+module _ {A : Type 0} {refusal : A → ℕ} {left : ℕ → A} where
+  -- no condition applies
+  taking : {x : A} {conditions : List ℕ} → refusal x ≡ 0 → firstOf conditions ≡ 0 → Answers refusal left x conditions
+  taking e f = record { said = e ∙ sym f; back = λ h. absurd (h e) }
 
-  -- an answer that is none, where no condition applies
-  pub taking : (answer : A) → refusal answer ≡ 0 → firstOf conditions ≡ 0 → Exactly refusal answer conditions left
-  taking answer e f = (e ∙ sym f, λ h. absurd (h e))
+  -- or is left
+  pub answered : {x : A} → refusal x ≡ 0 → Answers refusal left x []
+  unfolding firstOf
+  answered e = taking e refl
 
--- ---- the chip
+  -- the first that applies has this number
+  refusing : (k : ℕ) {conditions : List ℕ} → refusal (left k) ≡ k → firstOf conditions ≡ k → Answers refusal left (left k) conditions
+  refusing k e f = record { said = e ∙ sym f; back = λ _. ap left (sym e) }
 
-pub write-exactly : (index x : ℕ) (d : Dsp) → Exactly (λ a. a .refusal) (writeOf index x d) ((2 when isUnfit d) ∷ []) (λ k. record { refusal = k; dsp = d })
-unfolding writeOf firstOf
-write-exactly index x d =
-    let left : ℕ → Written = (λ k. record { refusal = k; dsp = d }) in
-    let conditions = (2 when isUnfit d) ∷ [] in
-    let refusal : Written → ℕ = (λ a. a .refusal) in
-    tested (λ (a : Written). Exactly refusal a conditions left) (fit d) (λ e. taking refusal left conditions _ refl (rw e)) (λ e. refusing refusal left conditions 2 refl (rw e))
+  -- other conditions, of which the same is the first
+  pub restated : {x : A} {conditions others : List ℕ} → firstOf others ≡ firstOf conditions → Answers refusal left x conditions → Answers refusal left x others
+  restated e h = record { said = h .said ∙ sym e; back = h .back }
 
-pub render-exactly : (d : Dsp) → Exactly (λ a. a .refusal) (renderOf d) ((2 when isUnfit d) ∷ []) (λ k. record { refusal = k; left = pos 0; right = pos 0 })
-unfolding renderOf firstOf
-render-exactly d =
-    let left : ℕ → Rendered = (λ k. record { refusal = k; left = pos 0; right = pos 0 }) in
-    let conditions = (2 when isUnfit d) ∷ [] in
-    let refusal : Rendered → ℕ = (λ a. a .refusal) in
-    tested (λ (a : Rendered). Exactly refusal a conditions left) (fit d) (λ e. taking refusal left conditions _ refl (rw e)) (λ e. refusing refusal left conditions 2 refl (rw e))
+  -- a number is the refusal, unless it is 0
+  pub numbered : (k : ℕ) {x : A} {conditions : List ℕ} → refusal (left k) ≡ k → (k ≡ 0 → Answers refusal left x conditions)
+      → Answers refusal left (if k =? 0 then x else left k) (k ∷ conditions)
+  unfolding firstOf
+  numbered k {conditions = conditions} e h =
+      tested (λ (a : A). Answers refusal left a (k ∷ conditions)) (k =? 0) (λ z. restated (rw z) (h (eqb-true k 0 z))) (λ z. refusing k e (rw z))
 
-pub step-exactly : (d : Dsp) (ram : List ℕ) → Exactly (λ a. a .refusal) (stepOf d ram) ((1 when ramIsNotWhole ram) ∷ (2 when isUnfit d) ∷ []) (λ k. refused k d ram)
-unfolding stepOf firstOf
-step-exactly d ram =
-    let left : ℕ → After = (λ k. refused k d ram) in
-    let conditions = (1 when ramIsNotWhole ram) ∷ (2 when isUnfit d) ∷ [] in
-    let refusal : After → ℕ = (λ a. a .refusal) in
-    let P : After → Type 0 = (λ a. Exactly refusal a conditions left) in
-    tested P (length ram =? 0x10000)
-    (λ a. tested P (fit d) (λ e. taking refusal left conditions _ refl (rw (a, e))) (λ e. refusing refusal left conditions 2 refl (rw (a, e))))
-    (λ e. refusing refusal left conditions 1 refl (rw e))
-
-pub ticks-exactly : (w : Work) (n : ℕ) (d : Dsp) (ram pcm sheet : List ℕ)
-    → Exactly (λ a. a .refusal) (driveOf w n d ram pcm sheet)
-    ((1 when ramIsNotWhole ram) ∷ (2 when isUnfit d) ∷ (10 when isNotAsLong pcm (n * 4)) ∷ (10 when isNotAsLong sheet (n * 36)) ∷ [])
-    (λ k. undriven k d ram pcm sheet)
-unfolding driveOf firstOf
-ticks-exactly w n d ram pcm sheet =
-    let left : ℕ → Drove = (λ k. undriven k d ram pcm sheet) in
-    let conditions = (1 when ramIsNotWhole ram) ∷ (2 when isUnfit d) ∷ (10 when isNotAsLong pcm (n * 4)) ∷ (10 when isNotAsLong sheet (n * 36)) ∷ [] in
-    let refusal : Drove → ℕ = (λ a. a .refusal) in
-    let P : Drove → Type 0 = (λ a. Exactly refusal a conditions left) in
-    let shown = if length sheet =? n * 36 then drove (ticksOf w n (benchOf d ram sheet)) else left 10 in
-    let heard = if length pcm =? n * 4 then shown else left 10 in
-    tested P (length ram =? 0x10000) {x = if fit d then heard else left 2} (λ a. tested P (fit d) {x = heard} (λ b. tested P (length pcm =? n * 4) (λ c. tested P (length sheet =? n * 36)
-    (λ e. taking refusal left conditions _ refl (rw (a, b, c, e)))
-    (λ e. refusing refusal left conditions 10 refl (rw (a, b, c, e))))
-    (λ e. refusing refusal left conditions 10 refl (rw (a, b, e))))
-    (λ e. refusing refusal left conditions 2 refl (rw (a, e))))
-    (λ e. refusing refusal left conditions 1 refl (rw e))
+  -- a test refuses by a number, unless it holds
+  pub guarded : (b : Bool) (k : ℕ) {x : A} {conditions : List ℕ} → (k =? 0) ≡ false → refusal (left k) ≡ k → Answers refusal left x conditions
+      → Answers refusal left (if b then x else left k) ((k when not b) ∷ conditions)
+  unfolding firstOf
+  guarded true k z e h = restated refl h
+  guarded false k z e h = refusing k e (rw z)
 
 -- ---- a log
 
@@ -109,50 +80,58 @@ total-refused (r ∷ rs) stop t q =
     tested (λ (m : Measured). m .refusal ≢ 0 → m ≡ unmeasured (m .refusal)) (32000 <? t + ticksIn r) (λ _ h. refl)
     (λ _. total-refused rs stop (t + ticksIn r) (q + readingsIn r))
 
-measure-refused : (log : List ℕ) → measureOf log .refusal ≢ 0 → measureOf log ≡ unmeasured (measureOf log .refusal)
+pub measure-refused : (log : List ℕ) → measureOf log .refusal ≢ 0 → measureOf log ≡ unmeasured (measureOf log .refusal)
 unfolding measureOf
 measure-refused log =
     tested (λ (m : Measured). m .refusal ≢ 0 → m ≡ unmeasured (m .refusal)) (60000 <? length log) (λ _ h. refl)
     (λ _. total-refused (decode log .records) (decode log .stop) 0 0)
 
-pub measure-exactly : (log : List ℕ) → Exactly (λ a. a .refusal) (measureOf log) ((3 when isTooLong log) ∷ faultOf log ∷ []) unmeasured
-measure-exactly log = (measure-said log, measure-refused log)
-
 -- ---- a run
 
 -- 10 where one of three lengths is another
-room-said : (x y z : Bool) → firstOf ((10 when not x) ∷ (10 when not y) ∷ (10 when not z) ∷ []) ≡ (10 when not (x && y && z))
+room-said : (x y z : Bool) → firstOf ((10 when not x) ∷ (10 when not y) ∷ (10 when not z) ∷ []) ≡ firstOf ((10 when not (x && y && z)) ∷ [])
 unfolding firstOf
 room-said false y z = refl
 room-said true false z = refl
-room-said true true false = refl
-room-said true true true = refl
+room-said true true z = refl
 
--- a log's conditions, by what it measures
+-- two conditions, by the number that they come to
+two-said : (k l : ℕ) {n : ℕ} (rest : List ℕ) → n ≡ firstOf (k ∷ l ∷ []) → firstOf (k ∷ l ∷ rest) ≡ firstOf (n ∷ rest)
+two-said k l rest e = first-two k l rest ∙ ap (λ (n : ℕ). firstOf (n ∷ rest)) (sym e)
+
 log-said : (log rest : List ℕ) → firstOf ((3 when isTooLong log) ∷ faultOf log ∷ rest) ≡ firstOf (measureOf log .refusal ∷ rest)
-log-said log rest = first-two (3 when isTooLong log) (faultOf log) rest ∙ ap (λ (k : ℕ). firstOf (k ∷ rest)) (sym (measure-said log))
+log-said log rest = two-said _ _ rest (measure-said log)
 
 pub run-exactly : (w : Work) (d : Dsp) (ram log pcm sheet readings : List ℕ)
     → Exactly (λ a. a .refusal) (runWith w d ram log pcm sheet readings) (ofRun d ram log pcm sheet readings) (λ k. unrun k d ram pcm sheet readings)
-unfolding runWith runMeasured firstOf
+unfolding runWith runMeasured
 run-exactly w d ram log pcm sheet readings =
-    let left : ℕ → Outcome = (λ k. unrun k d ram pcm sheet readings) in
-    let conditions = ofRun d ram log pcm sheet readings in
-    let refusal : Outcome → ℕ = (λ a. a .refusal) in
-    let P : Outcome → Type 0 = (λ a. Exactly refusal a conditions left) in
     let m = measureOf log in
     let x = length pcm =? m .ticks * 4 in
     let y = length sheet =? m .ticks * 36 in
     let z = length readings =? m .readings in
-    let r = room-said x y z in
-    let l = log-said log (ofRoom log pcm sheet readings) in
-    let run = runMeasured w m d ram log pcm sheet readings in
-    tested P (length ram =? 0x10000) {x = if fit d then run else left 2} (λ a. tested P (fit d) {x = run} (λ b. tested P (m .refusal =? 0) (λ c. tested P (x && y && z)
-    (λ e. taking refusal left conditions _ refl (rw (a, b) (l ∙ rw c (r ∙ rw e))))
-    (λ e. refusing refusal left conditions 10 refl (rw (a, b) (l ∙ rw c (r ∙ rw e)))))
-    (λ c. refusing refusal left conditions (m .refusal) refl (rw (a, b) (l ∙ rw c))))
-    (λ e. refusing refusal left conditions 2 refl (rw (a, e))))
-    (λ e. refusing refusal left conditions 1 refl (rw e))
+    exactly (λ k. unrun k d ram pcm sheet readings) (λ a. a .refusal)
+    (guarded (length ram =? 0x10000) 1 refl refl (guarded (fit d) 2 refl refl (restated (log-said log _)
+    (numbered (m .refusal) refl (λ _. restated (room-said x y z) (guarded (x && y && z) 10 refl refl (answered refl)))))))
+
+room-left : (d : Dsp) (ram log room : List ℕ) → length ram ≡ 0x10000 → fit d ≡ true → measureOf log .refusal ≡ 0
+    → firstOf ((1 when ramIsNotWhole ram) ∷ (2 when isUnfit d) ∷ (3 when isTooLong log) ∷ faultOf log ∷ room) ≡ firstOf room
+unfolding firstOf
+room-left d ram log room l f z = rw (eq-eqb (length ram) 0x10000 l, f) (log-said log room ∙ rw (eq-eqb (measureOf log .refusal) 0 z))
+
+-- where nothing but the room is amiss, an answer that follows a run's is refused as the run
+pub ran-said : (w : Work) (d : Dsp) (ram log pcm sheet readings : List ℕ) (y : Left) → length ram ≡ 0x10000 → fit d ≡ true → measureOf log .refusal ≡ 0
+    → (runWith w d ram log pcm sheet readings .refusal ≡ 0 → y .refusal ≡ 0)
+    → (let o = runWith w d ram log pcm sheet readings in
+    Answers (λ (a : Left). a .refusal) (λ k. unreworked k d pcm sheet readings) (if o .refusal =? 0 then y else unreworked (o .refusal) d (o .pcm) (o .sheet) (o .readings)) (ofRoom log pcm sheet readings))
+ran-said w d ram log pcm sheet readings y l f z h =
+    let o = runWith w d ram log pcm sheet readings in
+    let room = ofRoom log pcm sheet readings in
+    let x = run-exactly w d ram log pcm sheet readings in
+    let r : o .refusal ≡ firstOf room = x .0 ∙ room-left d ram log room l f z in
+    tested (λ (a : Left). Answers (λ (b : Left). b .refusal) (λ k. unreworked k d pcm sheet readings) a room) (o .refusal =? 0)
+    (λ e. taking (h (eqb-true _ _ e)) (sym r ∙ eqb-true _ _ e))
+    (λ e. record { said = r; back = λ n. let g = x .1 n in λ i. unreworked (o .refusal) d (g i .pcm) (g i .sheet) (g i .readings) })
 
 -- ---- a part of a run
 
@@ -160,7 +139,7 @@ front-said : (at : ℕ) (log : List ℕ) → logRefusal at log ≡ firstOf ((3 w
 unfolding logRefusal firstOf
 front-said at log =
     tested (λ (k : ℕ). k ≡ firstOf ((3 when isTooLong log) ∷ (if at =? 0 then faultOf log else 0) ∷ [])) (at =? 0) (λ e. rw e (measure-said log))
-    (λ e. tested (λ (k : ℕ). k ≡ firstOf ((3 when isTooLong log) ∷ (if at =? 0 then faultOf log else 0) ∷ [])) (60000 <? length log) (λ d. rw (e, d)) (λ d. rw (e, d)))
+    (λ e. rw e (sym (first-alone (3 when isTooLong log))))
 
 -- at a record: refused by how the log stops there
 next-exactly : (n : Next) (d : Dsp) (at left : ℕ) → left ≡ 0 → Exactly (λ t. t .refusal) (nextAt n d at) (stopIn n ∷ []) (λ k. untold k d at left)
@@ -172,89 +151,68 @@ next-exactly (On (Write r x) behind) d at left z = (refl, λ h. absurd (h refl))
 next-exactly (On (Ticks n) behind) d at left z = (refl, λ h. absurd (h refl))
 next-exactly (On (Reading r) behind) d at left z = (refl, λ h. absurd (h refl))
 
-pub part-exactly : (d : Dsp) (at left : ℕ) (ram log pcm : List ℕ)
-    → Exactly (λ a. a .told .refusal) (partOf d at left ram log pcm) (ofPart d at left ram log pcm) (λ k. unparted k d at left ram pcm)
-unfolding partOf sounding firstOf
-part-exactly d at left ram log pcm =
-    let back : ℕ → Parted = (λ k. unparted k d at left ram pcm) in
-    let conditions = ofPart d at left ram log pcm in
-    let refusal : Parted → ℕ = (λ a. a .told .refusal) in
-    let P : Parted → Type 0 = (λ a. Exactly refusal a conditions back) in
-    let rest = (if left =? 0 then stopIn (readAt log at) else 0) ∷ (10 when not (left =? 0) && (length pcm <? 4)) ∷ [] in
-    let l : firstOf ((3 when isTooLong log) ∷ (if at =? 0 then faultOf log else 0) ∷ rest) ≡ firstOf (logRefusal at log ∷ rest) =
-    first-two (3 when isTooLong log) (if at =? 0 then faultOf log else 0) rest ∙ ap (λ (k : ℕ). firstOf (k ∷ rest)) (sym (front-said at log)) in
-    let heard = if length pcm <? 4 then back 10 else sounding (ticksNow left (length pcm)) d at left ram pcm in
-    let next = if left =? 0 then record { told = nextAt (readAt log at) d at; ram = ram; pcm = pcm } else heard in
-    let checked = if logRefusal at log =? 0 then next else back (logRefusal at log) in
-    tested P (length ram =? 0x10000) {x = if fit d then checked else back 2} (λ a. tested P (fit d) {x = checked} (λ b. tested P (logRefusal at log =? 0) {x = next} (λ c. tested P (left =? 0)
-    (λ z.
-    let n = next-exactly (readAt log at) d at left (eqb-true left 0 z) in
-    (n .0 ∙ sym (rw (a, b) (l ∙ rw (c, z))), λ h. let e = n .1 h in λ i. record { told = e i; ram = ram; pcm = pcm }))
-    (λ z. tested P (length pcm <? 4)
-    (λ e. refusing refusal back conditions 10 refl (rw (a, b) (l ∙ rw (c, z, e))))
-    (λ e. taking refusal back conditions _ refl (rw (a, b) (l ∙ rw (c, z, e))))))
-    (λ c. refusing refusal back conditions (logRefusal at log) refl (rw (a, b) (l ∙ rw c))))
-    (λ e. refusing refusal back conditions 2 refl (rw (a, e))))
-    (λ e. refusing refusal back conditions 1 refl (rw e))
+module _ (d : Dsp) (at left : ℕ) (ram log pcm : List ℕ) where
+  abbrev back : ℕ → Parted
+  back k = unparted k d at left ram pcm
+
+  abbrev Parts : Parted → List ℕ → Type 0
+  Parts = Answers (λ (a : Parted). a .told .refusal) back
+
+  -- behind the log's own: what stands at the place, or the room for a tick
+  abbrev here : List ℕ
+  here = (if left =? 0 then stopIn (readAt log at) else 0) ∷ (10 when not (left =? 0) && (length pcm <? 4)) ∷ []
+
+  place-said : Parts (if left =? 0 then record { told = nextAt (readAt log at) d at; ram = ram; pcm = pcm } else
+      if length pcm <? 4 then back 10 else sounding (ticksNow left (length pcm)) d at left ram pcm) here
+  unfolding sounding firstOf
+  place-said =
+      tested (λ (a : Parted). Parts a here) (left =? 0)
+      (λ z.
+      let n = next-exactly (readAt log at) d at left (eqb-true left 0 z) in
+      record { said = n .0 ∙ rw z; back = λ h. let e = n .1 h in λ i. record { told = e i; ram = ram; pcm = pcm } })
+      (λ z. tested (λ (a : Parted). Parts a here) (length pcm <? 4) (λ e. refusing 10 refl (rw (z, e))) (λ e. taking refl (rw (z, e))))
+
+  pub part-exactly : Exactly (λ a. a .told .refusal) (partOf d at left ram log pcm) (ofPart d at left ram log pcm) back
+  unfolding partOf
+  part-exactly =
+      exactly back (λ a. a .told .refusal)
+      (guarded (length ram =? 0x10000) 1 refl refl (guarded (fit d) 2 refl refl (restated (two-said _ _ _ (front-said at log))
+      (numbered (logRefusal at log) refl (λ _. place-said)))))
 
 -- ---- a rework
 
--- the conditions that stand before the run's own 10, by what both logs measure
-abbrev early : ℕ → Dsp → Dsp → List ℕ → List ℕ → List ℕ → List ℕ
-early s start end ram log₁ log₂ =
-    (1 when ramIsNotWhole ram) ∷ (2 when isUnfit start) ∷ (2 when isUnfit end) ∷ measureOf log₁ .refusal ∷ measureOf log₂ .refusal
-    ∷ (12 when not (alike s (decode log₁ .records) (decode log₂ .records))) ∷ (11 when not (quiet (decode log₂ .records) (modesOf start))) ∷ []
+first-none : (rest : List ℕ) → firstOf rest ≡ firstOf (0 ∷ rest)
+unfolding firstOf
+first-none rest = refl
 
-early-said : (s : ℕ) (start end : Dsp) (ram log₁ log₂ : List ℕ) → firstOf (early s start end ram log₁ log₂) ≡ refusalOf s start end ram log₁ log₂
-unfolding refusalOf firstOf
-early-said s start end ram log₁ log₂ =
-    let P : ℕ → Type 0 = (λ k. firstOf (early s start end ram log₁ log₂) ≡ k) in
-    let m = measureOf log₁ .refusal in
-    let n = measureOf log₂ .refusal in
-    tested P (not (length ram =? 0x10000)) (λ e. rw e) (λ a. tested P (not (fit start)) (λ e. rw (a, e)) (λ b. tested P (not (fit end)) (λ e. rw (a, b, e)) (λ c.
-    tested P (not (m =? 0)) (λ e. rw (a, b, c, not-true (m =? 0) e)) (λ d. tested P (not (n =? 0)) (λ e. rw (a, b, c, not-false (m =? 0) d, not-true (n =? 0) e)) (λ f.
-    tested P (not (alike s (decode log₁ .records) (decode log₂ .records))) (λ e. rw (a, b, c, not-false (m =? 0) d, not-false (n =? 0) f, e)) (λ g.
-    tested P (not (quiet (decode log₂ .records) (modesOf start))) (λ e. rw (a, b, c, not-false (m =? 0) d, not-false (n =? 0) f, g, e)) (λ e. rw (a, b, c, not-false (m =? 0) d, not-false (n =? 0) f, g, e))))))))
+-- a condition before others that come to n, or else to what is behind
+when-said : (k : ℕ) (b : Bool) (n : ℕ) (conditions behind : List ℕ) → (k =? 0) ≡ false → firstOf conditions ≡ firstOf (n ∷ behind)
+    → firstOf ((k when b) ∷ conditions) ≡ firstOf ((if b then k else n) ∷ behind)
+unfolding firstOf
+when-said k true n conditions behind z e = rw z
+when-said k false n conditions behind z e = e
+
+number-said : (k n : ℕ) (conditions behind : List ℕ) → firstOf conditions ≡ firstOf (n ∷ behind)
+    → firstOf (k ∷ conditions) ≡ firstOf ((if not (k =? 0) then k else n) ∷ behind)
+unfolding firstOf
+number-said zero n conditions behind e = e
+number-said (suc k) n conditions behind e = let z = ne-eqb (suc k) 0 (omega arith) in rw (z, z)
 
 module _ (s : ℕ) (start end : Dsp) (ram log₁ log₂ pcm sheet readings : List ℕ) where
   -- what is refused before the run, else the room that is lent
-  pub rework-said : firstOf (ofRework s start end ram log₁ log₂ pcm sheet readings)
-      ≡ (if refusalOf s start end ram log₁ log₂ =? 0 then firstOf (ofRoom log₂ pcm sheet readings) else refusalOf s start end ram log₁ log₂)
-  unfolding firstOf
-  rework-said =
-      let room = ofRoom log₂ pcm sheet readings in
-      let rest = (12 when not (alike s (decode log₁ .records) (decode log₂ .records))) ∷ (11 when not (quiet (decode log₂ .records) (modesOf start))) ∷ room in
-      let one = 1 when ramIsNotWhole ram in
-      let two = 2 when isUnfit start in
-      let end-two = 2 when isUnfit end in
-      let m = measureOf log₁ .refusal in
-      ap (λ (n : ℕ). if one =? 0 then (if two =? 0 then (if end-two =? 0 then n else end-two) else two) else one)
-      (log-said log₁ ((3 when isTooLong log₂) ∷ faultOf log₂ ∷ rest) ∙ ap (λ (n : ℕ). if m =? 0 then n else m) (log-said log₂ rest))
-      ∙ first-append (early s start end ram log₁ log₂) room
-      ∙ ap (λ (n : ℕ). if n =? 0 then firstOf room else n) (early-said s start end ram log₁ log₂)
-
-  -- a run of which nothing but the room is amiss
-  pub room-left : (log : List ℕ) → length ram ≡ 0x10000 → fit start ≡ true → measureOf log .refusal ≡ 0
-      → firstOf (ofRun start ram log pcm sheet readings) ≡ firstOf (ofRoom log pcm sheet readings)
-  unfolding firstOf
-  room-left log l f z =
-      rw (eq-eqb (length ram) 0x10000 l, f) (log-said log (ofRoom log pcm sheet readings) ∙ rw (eq-eqb (measureOf log .refusal) 0 z))
+  pub early-said : firstOf (ofRework s start end ram log₁ log₂ pcm sheet readings) ≡ firstOf (refusalOf s start end ram log₁ log₂ ∷ ofRoom log₂ pcm sheet readings)
+  unfolding refusalOf
+  early-said =
+      when-said 1 (ramIsNotWhole ram) _ _ _ refl (when-said 2 (isUnfit start) _ _ _ refl (when-said 2 (isUnfit end) _ _ _ refl
+      (log-said log₁ _ ∙ number-said (measureOf log₁ .refusal) _ _ _ (log-said log₂ _ ∙ number-said (measureOf log₂ .refusal) _ _ _
+      (when-said 12 (not (alike s (decode log₁ .records) (decode log₂ .records))) _ _ _ refl
+      (when-said 11 (not (quiet (decode log₂ .records) (modesOf start))) _ _ _ refl (first-none _)))))))
 
   pub rework-exactly : Exactly (λ a. a .refusal) (reworkOf s start end ram log₁ log₂ pcm sheet readings) (ofRework s start end ram log₁ log₂ pcm sheet readings)
       (λ k. unreworked k start pcm sheet readings)
   unfolding reworkOf
   rework-exactly =
-      let left : ℕ → Left = (λ k. unreworked k start pcm sheet readings) in
-      let conditions = ofRework s start end ram log₁ log₂ pcm sheet readings in
-      let refusal : Left → ℕ = (λ a. a .refusal) in
-      let P : Left → Type 0 = (λ a. Exactly refusal a conditions left) in
-      let w = only (setOf s start log₂) in
-      let o = runWith w start ram log₂ pcm sheet readings in
-      tested P (refusalOf s start end ram log₁ log₂ =? 0)
-      (λ z.
-      let u = passed s start end ram log₁ log₂ (eqb-true _ _ z) in
-      let x = run-exactly w start ram log₂ pcm sheet readings in
-      let y : o .refusal ≡ firstOf conditions = x .0 ∙ room-left log₂ (u .whole) (u .fits) (u .second) ∙ sym (rework-said ∙ rw z) in
-      tested P (o .refusal =? 0) (λ e. taking refusal left conditions _ refl (sym y ∙ eqb-true _ _ e))
-      (λ e. (y, λ h. let g = x .1 h in λ i. unreworked (o .refusal) start (g i .pcm) (g i .sheet) (g i .readings))))
-      (λ e. refusing refusal left conditions (refusalOf s start end ram log₁ log₂) refl (rework-said ∙ rw e))
+      exactly (λ k. unreworked k start pcm sheet readings) (λ a. a .refusal)
+      (restated early-said (numbered (refusalOf s start end ram log₁ log₂) refl (λ z.
+      let u = passed s start end ram log₁ log₂ z in
+      ran-said (only (setOf s start log₂)) start ram log₂ pcm sheet readings _ (u .whole) (u .fits) (u .second) (λ _. refl))))

@@ -1,6 +1,6 @@
 -- A rework over any old sheet that agrees outside the set gives the run of the same log: lane by lane, tick by tick, beat by beat.
 use mathlib.Core.Bool.{Bool, true, false}
-use mathlib.Core.List.{List, [], _∷_, _++_, map}
+use mathlib.Core.List.{List, [], _∷_, _++_}
 use mathlib.Core.Path.{_≡_, refl, sym, ap, subst, _∙_}
 use Prim.Native.Nat.{ℕ, zero, suc, _+_, _*_, _/_, _%_, _≤_, _<_}
 use native.Mathlib.Omega.{arith}
@@ -36,14 +36,14 @@ use Rattle.dsp.proofs.Ticks.{RoundFit, BenchFit, fit-kept-turn, fit-kept-bench,
 use Rattle.dsp.proofs.Fits.{level-fit}
 use Rattle.dsp.proofs.Moves.{volumes-kept}
 use Rattle.rework.specs.Differ.{Outside, Value}
-use Rattle.rework.proofs.Lanes.{lane-last}
+use Rattle.rework.proofs.Lanes.{cellIn, slotOf, lane-last}
 use Rattle.rework.proofs.Sixteen.{Is16, joined-halves, output16, fir16, noise16, sample16}
-use Rattle.rework.proofs.Tape.{Beat, put, tick, ask, Small, Quiet, modesIn, Tape, behindTick, tape, modes-tick, SameLanes, bare, Sim, Over, upon, Right}
+use Rattle.rework.proofs.Tape.{Beat, put, tick, ask, Small, Quiet, modesIn, tape, modes-tick, SameLanes, bare, Sim, Over, upon, Right}
 
 -- ---- two lists side by side
 
 -- after a store into both at n
-set-both : {A : Type 0} (R : A → A → Type 0) (d : A) (xs ys : List A) (n : ℕ) (x y : A) → length xs ≡ length ys
+pub set-both : {A : Type 0} (R : A → A → Type 0) (d : A) (xs ys : List A) (n : ℕ) (x y : A) → length xs ≡ length ys
     → (m : ℕ) → (m ≡ n → R x y) → R (getD xs m d) (getD ys m d) → R (getD (set xs n x) m d) (getD (set ys n y) m d)
 set-both R d [] [] n x y e m p h = h
 set-both R d [] (w ∷ ys) n x y e m p h = absurd (omega arith)
@@ -53,42 +53,35 @@ set-both R d (v ∷ xs) (w ∷ ys) zero x y e (suc m) p h = h
 set-both R d (v ∷ xs) (w ∷ ys) (suc n) x y e zero p h = h
 set-both R d (v ∷ xs) (w ∷ ys) (suc n) x y e (suc m) p h = set-both R d xs ys n x y (omega arith) m (λ q. p (ap suc q)) h
 
--- the voices of a rework and of the run: the same in the set, and with the same volumes everywhere
-record Beside (a : ℕ) (vs ws : List Voice) : Type 0 where
-  count : length vs ≡ length ws
-  voices : (j : ℕ) → j < 8 → bit a j ≡ true → getD vs j noVoice ≡ getD ws j noVoice
-  lefts : (j : ℕ) → j < 8 → getD vs j noVoice .«left_vol» ≡ getD ws j noVoice .«left_vol»
-  rights : (j : ℕ) → j < 8 → getD vs j noVoice .«right_vol» ≡ getD ws j noVoice .«right_vol»
+-- the turns of two runs, by what each turn keeps between them
+pub turns-both : {A B : Type 0} (R : ℕ → A → B → Type 0) (f : ℕ → A → A) (g : ℕ → B → B) (k : ℕ) → ((n : ℕ) (a : A) (b : B) → n < k → R n a b → R (suc n) (f n a) (g n b))
+    → (n : ℕ) (a : A) (b : B) → n ≤ k → R 0 a b → R n (turns f n a) (turns g n b)
+unfolding turns
+turns-both R f g k h zero a b l p = p
+turns-both R f g k h (suc n) a b l p = h n (turns f n a) (turns g n b) (omega arith) (turns-both R f g k h n a b (omega arith) p)
 
-beside-set : (a n : ℕ) (vs ws : List Voice) (v w : Voice) → Beside a vs ws → (bit a n ≡ true → v ≡ w) → v .«left_vol» ≡ w .«left_vol» → v .«right_vol» ≡ w .«right_vol»
-    → Beside a (set vs n v) (set ws n w)
-beside-set a n vs ws v w h e l r =
-    record {
-      count = length-set vs n v ∙ h .count ∙ sym (length-set ws n w);
-      voices = λ j m b. set-both _≡_ noVoice vs ws n v w (h .count) j (λ q. e (subst (λ (k : ℕ). bit a k ≡ true) q b)) (h .voices j m b);
-      lefts = λ j m. set-both (λ (x y : Voice). x .«left_vol» ≡ y .«left_vol») noVoice vs ws n v w (h .count) j (λ q. l) (h .lefts j m);
-      rights = λ j m. set-both (λ (x y : Voice). x .«right_vol» ≡ y .«right_vol») noVoice vs ws n v w (h .count) j (λ q. r) (h .rights j m);
-    }
+-- a voice of a rework and of the run: the same in the set, and with the same volumes everywhere
+record Near (inside : Bool) (v w : Voice) : Type 0 where
+  same : inside ≡ true → v ≡ w
+  left : v .«left_vol» ≡ w .«left_vol»
+  right : v .«right_vol» ≡ w .«right_vol»
+
+abbrev Beside : ℕ → List Voice → List Voice → Type 0
+Beside a vs ws = (j : ℕ) → j < 8 → Near (bit a j) (getD vs j noVoice) (getD ws j noVoice)
+
+beside-set : (a n : ℕ) (vs ws : List Voice) (v w : Voice) → length vs ≡ length ws → Beside a vs ws → Near (bit a n) v w → Beside a (set vs n v) (set ws n w)
+beside-set a n vs ws v w l h e = λ j m. set-both (Near (bit a j)) noVoice vs ws n v w l j (λ q. rw q e) (h j m)
 
 -- ---- a register write
 
-beside-silenced : (a : ℕ) (vs ws : List Voice) → Beside a vs ws → Beside a (map silenced vs) (map silenced ws)
-beside-silenced a vs ws h =
-    record {
-      count = length-map vs silenced ∙ h .count ∙ sym (length-map ws silenced);
-      voices = λ j l b. map-both _≡_ silenced noVoice (λ v w e. ap silenced e) vs ws (h .count) j (h .voices j l b);
-      lefts = λ j l. map-both (λ (v w : Voice). v .«left_vol» ≡ w .«left_vol») silenced noVoice (λ v w e. e) vs ws (h .count) j (h .lefts j l);
-      rights = λ j l. map-both (λ (v w : Voice). v .«right_vol» ≡ w .«right_vol») silenced noVoice (λ v w e. e) vs ws (h .count) j (h .rights j l);
-    }
-
-beside-write : (a i x : ℕ) (vs ws : List Voice) → i < 128 → Beside a vs ws → Beside a (voicesAfter i x vs) (voicesAfter i x ws)
-beside-write a i x vs ws l h =
-    let n = i / 16 in
-    let m : n < 8 = omega arith in
+beside-write : (a i x : ℕ) (vs ws : List Voice) → i < 128 → length vs ≡ length ws → Beside a vs ws → Beside a (voicesAfter i x vs) (voicesAfter i x ws)
+beside-write a i x vs ws l c h =
+    let b = h (i / 16) (omega arith) in
+    let volume : ℕ → ℤ → ℤ = (λ k y. at (i % 16) k (cutZ 0x80 (pos x)) y) in
     chosen-both (Beside a) (i % 16 <? 8)
-    (beside-set a n vs ws _ _ h (λ b. ap (writeVoice (i % 16) x) (h .voices n m b)) (λ k. at (i % 16) 0 (cutZ 0x80 (pos x)) (h .lefts n m k)) (λ k. at (i % 16) 1 (cutZ 0x80 (pos x)) (h .rights n m k)))
+    (beside-set a (i / 16) vs ws _ _ c h (record { same = λ t. ap (writeVoice (i % 16) x) (b .same t); left = ap (volume 0) (b .left); right = ap (volume 1) (b .right) }))
     (chosen-both (Beside a) (resets i x)
-    (beside-silenced a vs ws h)
+    (λ j m. map-both (Near (bit a j)) silenced noVoice (λ v w e. record { same = λ t. ap silenced (e .same t); left = e .left; right = e .right }) vs ws c j (h j m))
     h)
 
 -- ---- one lane
@@ -101,9 +94,6 @@ record Shows (x y : Cell) : Type 0 where
   left : x .voice .«left_vol» ≡ y .voice .«left_vol»
   right : x .voice .«right_vol» ≡ y .voice .«right_vol»
 
-abbrev slotOf : Cell → List ℕ
-slotOf x = laneBytes (x .out) (x .envx) (x .endx)
-
 endx-read : (b : Bool) → ((if b then 1 else 0) % 2 =? 1) ≡ b
 endx-read true = refl
 endx-read false = refl
@@ -114,12 +104,9 @@ shown-read : (y : Cell) (v : Voice) (delay : ℕ) → Is16 (y .out) → v .«lef
 unfolding shownCell laneBytes
 shown-read y v delay h l r = record { out = joined-halves (y .out) h; envx = refl; endx = endx-read (y .endx); left = l; right = r }
 
--- the cell that the run's voice j comes to
-abbrev cellIn : Shared → List ℕ → ℕ → Round → Cell
-cellIn c ram j s = ownCell c ram j (s .sums .prev) (getD (s .voices) j noVoice) (getD (s .delays) j 0) (s .bytes)
-
 -- a rework's round beside the run's
 record Abreast (a : ℕ) (r s : Round) : Type 0 where
+  count : length (r .voices) ≡ length (s .voices)
   beside : Beside a (r .voices) (s .voices)
   waits : length (r .delays) ≡ length (s .delays)
   delays : (j : ℕ) → j < 8 → bit a j ≡ true → getD (r .delays) j 0 ≡ getD (s .delays) j 0
@@ -133,9 +120,10 @@ land-both : (a j : ℕ) (w : Bool) (c : Shared) (r s : Round) (old new : List �
     → Abreast a (landing j r (landed w c j (r .sums) (r .bytes) old x)) (landing j s (landed true c j (s .sums) (s .bytes) new y))
 land-both a j w c r s old new x y h e q z =
     record {
-      beside = beside-set a j (r .voices) (s .voices) (x .voice) (y .voice) (h .beside) (λ b k. q b k .voice) (e .left) (e .right);
+      count = length-set (r .voices) j (x .voice) ∙ h .count ∙ sym (length-set (s .voices) j (y .voice));
+      beside = beside-set a j (r .voices) (s .voices) (x .voice) (y .voice) (h .count) (h .beside) (record { same = λ b k. q b k .voice; left = e .left; right = e .right });
       waits = length-set (r .delays) j (x .delay) ∙ h .waits ∙ sym (length-set (s .delays) j (y .delay));
-      delays = λ n l b. set-both _≡_ 0 (r .delays) (s .delays) j (x .delay) (y .delay) (h .waits) n (λ m k. q (subst (λ (i : ℕ). bit a i ≡ true) m b) k .delay) (h .delays n l b);
+      delays = λ n l b. set-both _≡_ 0 (r .delays) (s .delays) j (x .delay) (y .delay) (h .waits) n (λ m k. q (rw m at b) k .delay) (h .delays n l b);
       bytes = λ k. putBytes j (e .envx k) (e .out k) (e .endx k) (h .bytes k);
       sums = λ k. added (bit (c .eon) j) (e .out k) (e .left k) (e .right k) (h .sums k);
       row = λ k. h .row k ++ z k;
@@ -150,7 +138,7 @@ unfolding turned
 lane-both a j true c ram r s old new b l h o f =
     let x = cellIn c ram j r in
     let y = cellIn c ram j s in
-    let e : x ≡ y = (λ k. ownCell c ram j (h .sums k .prev) (h .beside .voices j l b k) (h .delays j l b k) (h .bytes k)) in
+    let e : x ≡ y = (λ k. ownCell c ram j (h .sums k .prev) (h .beside j l .same b k) (h .delays j l b k) (h .bytes k)) in
     land-both a j true c r s old new x y h
     (record { out = λ k. e k .out; envx = λ k. e k .envx; endx = λ k. e k .endx; left = λ k. e k .voice .«left_vol»; right = λ k. e k .voice .«right_vol» })
     (λ _. e) (λ k. slotOf (e k))
@@ -159,8 +147,8 @@ lane-both a j false c ram r s old new b l h o f =
     let d = getD (r .delays) j 0 in
     let y = cellIn c ram j s in
     let k = volumes-kept c ram j (s .sums .prev) (getD (s .voices) j noVoice) (getD (s .delays) j 0) (s .bytes) in
-    let g = shown-read y v d o (h .beside .lefts j l ∙ k .0) (h .beside .rights j l ∙ k .1) in
-    land-both a j false c r s old new (shownCell old v d) y h (subst (λ (z : List ℕ). Shows (shownCell z v d) y) (sym (f b)) g)
+    let g = shown-read y v d o (h .beside j l .left ∙ k .0) (h .beside j l .right ∙ k .1) in
+    land-both a j false c r s old new (shownCell old v d) y h (rw (f b) g)
     (λ t. let z : _≡_ {A = ℕ} 0 1 = cc in absurd (omega arith)) (f b)
 
 -- ---- the run's rounds
@@ -207,12 +195,11 @@ unfolding turn turned
 row-more o c ram j s l = rw (full j l)
 
 row-wide : (o : List ℕ) (c : Shared) (ram : List ℕ) (n : ℕ) (s : Round) → n ≤ 8 → length (turns (turn 0xFF o c ram) n s .row) ≡ length (s .row) + n * 4
-unfolding turns laneBytes
-row-wide o c ram zero s l = omega arith
-row-wide o c ram (suc n) s l =
-    let t = turns (turn 0xFF o c ram) n s in
-    let e = row-wide o c ram n s (omega arith) in
-    ap length (row-more o c ram n t (omega arith)) ∙ length-append (t .row) (slotOf (cellIn c ram n t)) ∙ omega (arith, e)
+unfolding laneBytes
+row-wide o c ram n s l =
+    let f = turn 0xFF o c ram in
+    turns-both (λ (n : ℕ) (r t : Round). length (r .row) ≡ length (s .row) + n * 4) f f 8
+    (λ n r t m e. ap length (row-more o c ram n r m) ∙ length-append (r .row) (slotOf (cellIn c ram n r)) ∙ omega arith) n s s l (omega arith)
 
 -- ---- the voices of a tick
 
@@ -233,7 +220,7 @@ turns-abreast a old o c ram r s m g h z (suc n) l f =
     let e = row-more o c ram n t (omega arith) in
     let k : length (t .row) ≡ n * 4 = row-wide o c ram n s (omega arith) ∙ omega (arith, ap length z) in
     turn-both a old o c ram n (turns (turn a old c ram) n r) t m (omega arith) (sound-turns 0xFF o c ram m n s (omega arith) g)
-    (turns-abreast a old o c ram r s m g h z n (omega arith) (λ j i b. f j (omega arith) b ∙ ap (laneAt j) e ∙ lane-part j (t .row) y (omega (arith, k))))
+    (turns-abreast a old o c ram r s m g h z n (omega arith) (λ j i b. f j (omega arith) b ∙ ap (laneAt j) e ∙ lane-part j (t .row) y (omega arith)))
     (λ b. f n (omega arith) b ∙ ap (laneAt n) e ∙ lane-last n (t .row) y k refl)
 
 -- ---- what is needed of the run's parts
@@ -283,21 +270,22 @@ good-write i x p l m g =
 
 -- ---- a register write keeps a rework's parts beside the run's
 
--- the voices of both
-sim-beside : (a : ℕ) (p q : Parts) → Sim a p q → Good q → Beside a (p .voices) (q .voices)
-sim-beside a p q h g = record { count = h .count ∙ sym (g .round .fit .count); voices = h .voices; lefts = h .lefts; rights = h .rights }
+sim-beside : (a : ℕ) (p q : Parts) → Sim a p q → Beside a (p .voices) (q .voices)
+sim-beside a p q h = λ j l. record { same = h .voices j l; left = h .lefts j l; right = h .rights j l }
 
-sim-write : (a i x : ℕ) (p q : Parts) → i < 128 → Sim a p q → Good q → Good (writeParts i x q) → Sim a (writeParts i x p) (writeParts i x q)
+sim-write : (a i x : ℕ) (p q : Parts) → i < 128 → Sim a p q → Good q → Sim a (writeParts i x p) (writeParts i x q)
 unfolding writeParts
-sim-write a i x p q l h g k =
-    let b = beside-write a i x (p .voices) (q .voices) l (sim-beside a p q h g) in
+sim-write a i x p q l h g =
+    let b = beside-write a i x (p .voices) (q .voices) l (h .count ∙ sym (g .round .fit .count)) (sim-beside a p q h) in
     record {
       bytes = ap (bytesAfter i x) (h .bytes);
-      count = b .count ∙ k .round .fit .count;
+      count =
+          chosen (λ (vs : List Voice). length vs ≡ 8) (i % 16 <? 8) (simp length-set (h .count))
+          (chosen (λ (vs : List Voice). length vs ≡ 8) (resets i x) (length-map (p .voices) silenced ∙ h .count) (h .count));
       waits = h .waits;
-      voices = b .voices;
-      lefts = b .lefts;
-      rights = b .rights;
+      voices = λ j m. b j m .same;
+      lefts = λ j m. b j m .left;
+      rights = λ j m. b j m .right;
       delays = h .delays;
       globals = ap (globalsAfter i x) (h .globals);
     }
@@ -344,19 +332,19 @@ mixed-both a slot found p q ram r s e b f h z =
       parts =
           record {
             bytes = h .bytes;
-            count = h .beside .count ∙ f .count;
+            count = h .count ∙ f .count;
             waits = h .waits ∙ f .waits;
-            voices = h .beside .voices;
-            lefts = h .beside .lefts;
-            rights = h .beside .rights;
+            voices = λ j m. h .beside j m .same;
+            lefts = λ j m. h .beside j m .left;
+            rights = λ j m. h .beside j m .right;
             delays = h .delays;
             globals = g;
           };
       frame =
           ap frameOf
           (masters-both (echoFrom slot (globalsTick (p .globals))) (echoMoved k l m) (r .sums .dry) (s .sums .dry) g
-          (ap (λ (x : List ℕ). joined (getD x 0 0) (getD x 1 0)) z ∙ joined-halves l (echo16 k ram 0 (q .taps) (q .left)))
-          (ap (λ (x : List ℕ). joined (getD x 2 0) (getD x 3 0)) z ∙ joined-halves m (echo16 k ram 2 (q .taps) (q .right)))
+          ((λ i. joined (getD (z i) 0 0) (getD (z i) 1 0)) ∙ joined-halves l (echo16 k ram 0 (q .taps) (q .left)))
+          ((λ i. joined (getD (z i) 2 0) (getD (z i) 3 0)) ∙ joined-halves m (echo16 k ram 2 (q .taps) (q .right)))
           (λ i. h .sums i .dry));
       row = λ i. h .row i ++ z i;
       left = refl;
@@ -375,8 +363,8 @@ tick-both a old o p q ram h g b f =
     let n = shared16 (q .globals) (q .registers) in
     let k : length (s .row) ≡ 32 = row-wide o c ram 8 (startOf q) (omega arith) in
     let y : Abreast a (startOf p) (startOf q) =
-    record { beside = sim-beside a p q h g; waits = h .waits ∙ sym (g .round .fit .waits); delays = h .delays; bytes = h .bytes; sums = refl; row = refl } in
-    let u = turns-abreast a old o c ram (startOf p) (startOf q) n (g .round) y refl 8 (omega arith) (λ j l x. f j (omega arith) (λ _. x) ∙ lane-part j (s .row) slot (omega (arith, k))) in
+    record { count = h .count ∙ sym (g .round .fit .count); beside = sim-beside a p q h; waits = h .waits ∙ sym (g .round .fit .waits); delays = h .delays; bytes = h .bytes; sums = refl; row = refl } in
+    let u = turns-abreast a old o c ram (startOf p) (startOf q) n (g .round) y refl 8 (omega arith) (λ j l x. f j (omega arith) (λ _. x) ∙ lane-part j (s .row) slot (omega arith)) in
     let t = subst (λ (x : Shared). Abreast a (turns (turn a old x ram) 8 (startOf p)) s) (sym (shared-both (p .globals) (q .globals) (p .registers) (q .registers) (h .globals) (h .bytes))) u in
     mixed-both a (laneAt 8 old) (laneAt 8 o) p q ram (turns (turn a old d ram) 8 (startOf p)) s (h .globals) b (sound-turns 0xFF o c ram n 8 (startOf q) (omega arith) (g .round) .fit) t
     (f 8 (omega arith) (λ l. absurd (omega arith)) ∙ lane-last 8 (s .row) slot k refl)
@@ -386,12 +374,6 @@ tick-both a old o p q ram h g b f =
 over-first : {a : ℕ} {old r : List ℕ} {rs : List (List ℕ)} → Over a old (r ∷ rs) → SameLanes a old r × Over a (drop 36 old) rs
 over-first (upon s h) = (s, h)
 
--- a tick that is the run's, before a rest that is the run's
-ticks-right : (a : ℕ) (ram : List ℕ) (t u : Ticked) (x y : List ℕ → Tape) → Same a ram t u → Right a (x ram) (y ram) → Right a (behindTick t (x (t .ram))) (behindTick u (y (u .ram)))
-ticks-right a ram t u x y s h =
-    let k : Right a (x (t .ram)) (y (u .ram)) = subst (λ (m : List ℕ). Right a (x m) (y (u .ram))) (sym (s .left)) (subst (λ (m : List ℕ). Right a (x ram) (y m)) (sym (s .right)) h) in
-    record { frames = λ i. s .frame i ∷ k .frames i; rows = λ i. s .row i ∷ k .rows i; readings = k .readings; parts = k .parts }
-
 -- beat by beat
 pub right : (a : ℕ) (bs : List Beat) (o old : List ℕ) (p q : Parts) (ram : List ℕ) → length ram ≡ 0x10000 → Small bs → Sim a p q → Good q
     → Quiet bs (modesIn (q .globals)) → Over a old (tape everything bs o q ram .rows)
@@ -399,8 +381,7 @@ pub right : (a : ℕ) (bs : List Beat) (o old : List ℕ) (p q : Parts) (ram : L
 unfolding tape Small Quiet writeParts
 right a [] o old p q ram l m h g k v = record { frames = refl; rows = refl; readings = refl; parts = h }
 right a (put i x ∷ bs) o old p q ram l m h g k v =
-    let n = good-write i x q (m .0) (m .1) g in
-    right a bs o old (writeParts i x p) (writeParts i x q) ram l (m .2) (sim-write a i x p q (m .0) h g n) n k v
+    right a bs o old (writeParts i x p) (writeParts i x q) ram l (m .2) (sim-write a i x p q (m .0) h g) (good-write i x q (m .0) (m .1) g) k v
 right a (tick ∷ bs) o old p q ram l m h g k v =
     let w : Work = record { voices = a; echo = false } in
     let t = tickOf w old p ram in
@@ -408,9 +389,8 @@ right a (tick ∷ bs) o old p q ram l m h g k v =
     let f = over-first v in
     let s = tick-both a old o p q ram h g (k .0) (f .0) in
     let r = right a bs (drop 36 o) (drop 36 old) (t .parts) (u .parts) ram l m (s .parts) (good-tick everything o q ram l g)
-    (subst (Quiet bs) (sym (modes-tick everything o q ram)) (k .1))
-    (subst (λ (n : List ℕ). Over a (drop 36 old) (tape everything bs (drop 36 o) (u .parts) n .rows)) (s .right) (f .1)) in
-    ticks-right a ram t u (λ n. tape w bs (drop 36 old) (t .parts) n) (λ n. tape everything bs (drop 36 o) (u .parts) n) s r
+    (rw (modes-tick everything o q ram) (k .1)) (rw (s .right) at (f .1)) in
+    rw (s .left, s .right) (record { frames = λ i. s .frame i ∷ r .frames i; rows = λ i. s .row i ∷ r .rows i; readings = r .readings; parts = r .parts })
 right a (ask i ∷ bs) o old p q ram l m h g k v =
     let r = right a bs o old p q ram l m h g k v in
     record { frames = r .frames; rows = r .rows; readings = λ n. getD (h .bytes n) i 0 ∷ r .readings n; parts = r .parts }
@@ -422,7 +402,7 @@ unfolding tickOf voicesTick echoLane pairBytes
 row-36 o q ram =
     let c = sharedOf (q .globals) (q .registers) in
     let e = row-wide o c ram 8 (startOf q) (omega arith) in
-    length-append (turns (turn 0xFF o c ram) 8 (startOf q) .row) _ ∙ omega (arith, e)
+    length-append (turns (turn 0xFF o c ram) 8 (startOf q) .row) _ ∙ omega arith
 
 unfoldable pub Sized36 : List (List ℕ) → Type 0
 Sized36 [] = Unit {0}

@@ -1,6 +1,6 @@
 -- A sheet as its rows: how long it is, where a row of it stands, and what two sheets have in common outside a set.
 use mathlib.Core.List.{List, [], _∷_, _++_, flatten}
-use mathlib.Core.Path.{_≡_, refl, sym, ap, subst, _∙_}
+use mathlib.Core.Path.{_≡_, refl, sym, ap, _∙_}
 use Prim.Native.Nat.{ℕ, zero, suc, _+_, _*_, _<_}
 use native.Mathlib.Nat.{zero-add}
 use native.Mathlib.Omega.{arith}
@@ -34,12 +34,12 @@ rows-length (x ∷ xs) h = let e = rows-length xs (h .1) in length-append x (fla
 
 -- a row at the front has the sheet's lanes
 front-lane : (j : ℕ) (x rest : List ℕ) → length x ≡ 36 → j < 9 → laneAt j (x ++ rest) ≡ laneAt j x
-front-lane j x rest h l = lane-part j x rest (omega (arith, h, l))
+front-lane j x rest h l = lane-part j x rest (omega arith)
 
 -- past a row
 next-row : (t : ℕ) (x rest : List ℕ) → length x ≡ 36 → drop (suc t * 36) (x ++ rest) ≡ drop (t * 36) rest
 next-row t x rest h =
-    let e : suc t * 36 ≡ length x + t * 36 = omega (arith, h) in
+    let e : suc t * 36 ≡ length x + t * 36 = omega arith in
     ap (λ (n : ℕ). drop n (x ++ rest)) e ∙ drop-append-add x rest (t * 36)
 
 -- ---- two sheets that agree outside a set
@@ -48,7 +48,7 @@ pub over-rows : (a : ℕ) {xs ys : List (List ℕ)} → Sized36 xs → Rows a xs
 unfolding Sized36 flatten
 over-rows a h none = over
 over-rows a h (more {x = x} {y = y} {xs = xs} {ys = ys} s r) =
-    upon (λ j l o. front-lane j x (flatten xs) (h .0) l ∙ s j l o) (subst (λ (old : List ℕ). Over a old ys) (sym (drop-at x (flatten xs) 36 (h .0))) (over-rows a (h .1) r))
+    upon {rs = ys} (λ j l o. front-lane j x (flatten xs) (h .0) l ∙ s j l o) (rw (drop-at x (flatten xs) 36 (h .0)) (over-rows a (h .1) r))
 
 -- row t of both
 pub others : (a : ℕ) {xs ys : List (List ℕ)} → Sized36 xs → Sized36 ys → Rows a xs ys → (t j : ℕ) → j < 9 → (j < 8 → Outside a j)
@@ -59,21 +59,16 @@ others a h k (more {x = x} {y = y} {xs = xs} {ys = ys} s r) zero j l o = front-l
 others a h k (more {x = x} {y = y} {xs = xs} {ys = ys} s r) (suc t) j l o =
     ap (laneAt j) (next-row t y (flatten ys) (k .0)) ∙ others a (h .1) (k .1) r t j l o ∙ sym (ap (laneAt j) (next-row t x (flatten xs) (h .0)))
 
-pub rows-sym : (a : ℕ) {xs ys : List (List ℕ)} → Rows a xs ys → Rows a ys xs
-rows-sym a none = none
-rows-sym a (more s r) = more (λ j l o. sym (s j l o)) (rows-sym a r)
-
-pub rows-trans : (a : ℕ) {xs ys zs : List (List ℕ)} → Rows a xs ys → Rows a ys zs → Rows a xs zs
-rows-trans a none none = none
-rows-trans a (more s r) (more u v) = more (λ j l o. s j l o ∙ u j l o) (rows-trans a r v)
+-- rows that agree with the same rows agree
+pub rows-both : (a : ℕ) {xs ys zs : List (List ℕ)} → Rows a xs zs → Rows a ys zs → Rows a xs ys
+rows-both a none none = none
+rows-both a (more s r) (more u v) = more (λ j l o. s j l o ∙ sym (u j l o)) (rows-both a r v)
 
 pub rows-count : (a : ℕ) {xs ys : List (List ℕ)} → Rows a xs ys → length xs ≡ length ys
 rows-count a none = refl
 rows-count a (more s r) = ap suc (rows-count a r)
 
--- ---- as many rows as the records have ticks
-
--- ---- how many: what each record counts for, summed
+-- ---- as many rows as the records have ticks: what each record counts for, summed
 
 unfoldable pub sumIn : (Record → ℕ) → List Record → ℕ
 sumIn f [] = 0
@@ -95,9 +90,7 @@ ticks-more w zero bs k q h old p ram = rw (zero-add k) (h old p ram)
 ticks-more w (suc n) bs k q h old p ram =
     let t = tickOf w old p ram in
     let e = ticks-more w n bs k q h (drop 36 old) (t .parts) (t .ram) in
-    let a = e .rows in
-    let b = e .pcm in
-    record { rows = omega (arith, a); pcm = omega (arith, b); readings = e .readings }
+    record { rows = omega arith; pcm = omega arith; readings = e .readings }
 
 pub puts : (w : Work) (rs : List Record) (old : List ℕ) (p : Parts) (ram : List ℕ) → Puts (sumIn ticksIn rs) (sumIn readingsIn rs) (tape w (beats rs) old p ram)
 unfolding beats tape sumIn flatten
@@ -106,22 +99,19 @@ puts w (Write i v ∷ rs) old p ram = puts-as (puts w rs old (writeParts i v p) 
 puts w (Ticks n ∷ rs) old p ram = puts-as (ticks-more w n (beats rs) (sumIn ticksIn rs) (sumIn readingsIn rs) (puts w rs) old p ram) refl (omega arith)
 puts w (Reading r ∷ rs) old p ram =
     let e = puts w rs old p ram in
-    let a = e .rows in
-    let b = e .pcm in
-    let c = e .readings in
-    record { rows = omega (arith, a); pcm = omega (arith, b); readings = omega (arith, c) }
+    record { rows = omega arith; pcm = omega arith; readings = omega arith }
 
 -- the ticks and readings of a log that is refused by nothing
 pub total-sums : (rs : List Record) (stop t q T Q : ℕ) → total rs stop t q ≡ good T Q → (T ≡ t + sumIn ticksIn rs) × (Q ≡ q + sumIn readingsIn rs)
 unfolding total sumIn
 total-sums [] stop t q T Q =
     tested (λ (m : Measured). m ≡ good T Q → (T ≡ t + 0) × (Q ≡ q + 0)) (stop =? 0)
-    (λ _ e. let z : t ≡ T = ap (λ (m : Measured). m .ticks) e in let y : q ≡ Q = ap (λ (m : Measured). m .readings) e in (omega (arith, z), omega (arith, y)))
+    (λ _ e. let z : t ≡ T = ap (λ (m : Measured). m .ticks) e in let y : q ≡ Q = ap (λ (m : Measured). m .readings) e in (omega arith, omega arith))
     (λ f e. absurd (eqb-false stop 0 f (ap (λ (m : Measured). m .refusal) e)))
 total-sums (r ∷ rs) stop t q T Q =
     tested (λ (m : Measured). m ≡ good T Q → (T ≡ t + (ticksIn r + sumIn ticksIn rs)) × (Q ≡ q + (readingsIn r + sumIn readingsIn rs))) (32000 <? t + ticksIn r)
-    (λ _ e. let z : _≡_ {A = ℕ} 7 0 = ap (λ (m : Measured). m .refusal) e in absurd (omega (arith, z)))
-    (λ _ e. let z = total-sums rs stop (t + ticksIn r) (q + readingsIn r) T Q e in let x = z .0 in let y = z .1 in (omega (arith, x), omega (arith, y)))
+    (λ _ e. let z : _≡_ {A = ℕ} 7 0 = ap (λ (m : Measured). m .refusal) e in absurd (omega arith))
+    (λ _ e. let z = total-sums rs stop (t + ticksIn r) (q + readingsIn r) T Q e in (omega arith, omega arith))
 
 pub measured-sums : (log : List ℕ) → measureOf log .refusal ≡ 0
     → (measureOf log .ticks ≡ sumIn ticksIn (decode log .records)) × (measureOf log .readings ≡ sumIn readingsIn (decode log .records))
@@ -130,36 +120,23 @@ measured-sums log z =
     let t = total-sums (decode log .records) (decode log .stop) 0 0 (m .ticks) (m .readings) (taken log m refl z .all) in
     (t .0 ∙ zero-add (sumIn ticksIn (decode log .records)), t .1 ∙ zero-add (sumIn readingsIn (decode log .records)))
 
--- ---- records that differ only in what is a set's own
+-- ---- records that differ only in what is a set's own from the same one
 
-pub same-sym : (a : ℕ) (p q : Parts) → SameBut a p q → SameBut a q p
-same-sym a p q s =
-    let b = s .bytes in
-    record {
-      bytes = record { own = λ j k l m o. sym (b .own j k l m o); endx = λ j l o. sym (b .endx j l o); others = λ n l m o. sym (b .others n l m o) };
-      voices = λ j l o. sym (s .voices j l o);
-      delays = λ j l o. sym (s .delays j l o);
-      taps = sym (s .taps);
-      left = sym (s .left);
-      right = sym (s .right);
-      globals = sym (s .globals);
-    }
-
-pub same-trans : (a : ℕ) (p q r : Parts) → SameBut a p q → SameBut a q r → SameBut a p r
-same-trans a p q r s t =
+pub same-both : (a : ℕ) (p q r : Parts) → SameBut a p r → SameBut a q r → SameBut a p q
+same-both a p q r s t =
     let b = s .bytes in
     let c = t .bytes in
     record {
       bytes =
           record {
-            own = λ j k l m o. b .own j k l m o ∙ c .own j k l m o;
-            endx = λ j l o. b .endx j l o ∙ c .endx j l o;
-            others = λ n l m o. b .others n l m o ∙ c .others n l m o;
+            own = λ j k l m o. b .own j k l m o ∙ sym (c .own j k l m o);
+            endx = λ j l o. b .endx j l o ∙ sym (c .endx j l o);
+            others = λ n l m o. b .others n l m o ∙ sym (c .others n l m o);
           };
-      voices = λ j l o. s .voices j l o ∙ t .voices j l o;
-      delays = λ j l o. s .delays j l o ∙ t .delays j l o;
-      taps = s .taps ∙ t .taps;
-      left = s .left ∙ t .left;
-      right = s .right ∙ t .right;
-      globals = s .globals ∙ t .globals;
+      voices = λ j l o. s .voices j l o ∙ sym (t .voices j l o);
+      delays = λ j l o. s .delays j l o ∙ sym (t .delays j l o);
+      taps = s .taps ∙ sym (t .taps);
+      left = s .left ∙ sym (t .left);
+      right = s .right ∙ sym (t .right);
+      globals = s .globals ∙ sym (t .globals);
     }

@@ -1,7 +1,7 @@
 -- Numbers of 16 bits: they are read back from their two bytes; a voice's output and the echo's have 16 bits, and so has a voice's sample after a tick.
 use mathlib.Core.Bool.{Bool, not, _&&_}
 use mathlib.Core.List.{List}
-use mathlib.Core.Path.{_≡_, refl, ap, subst}
+use mathlib.Core.Path.{_≡_, refl, ap}
 use Prim.Native.Nat.{ℕ, suc, _+_, _-_, _*_, _/_, _%_, _^_, _≤_, _<_}
 use native.Mathlib.Nat.{le-refl}
 use native.Mathlib.Omega.{arith}
@@ -44,16 +44,16 @@ is16 (negsuc n) h =
 
 -- whatever is cut
 cut-small : (x : ℤ) → mag (to16 x) < 0x8000
-cut-small x = let h = cutZ-any 0x8000 tt x (mag x) (le-refl (mag x)) tt .1 in omega (arith, h)
+cut-small x = let h = cutZ-any 0x8000 tt x (mag x) (le-refl (mag x)) tt .1 in omega arith
 
 pub small16 : (x : ℤ) → to16 x ≡ x → mag x < 0x8000
-small16 x e = subst (λ (y : ℤ). mag y < 0x8000) e (cut-small x)
+small16 x e = rw e at (cut-small x)
 
 pub cut16 : (x : ℤ) → Is16 (to16 x)
 cut16 x = is16 (to16 x) (cut-small x)
 
 pub clamped16 : (x : ℤ) → Is16 (clamp16Z x)
-clamped16 x = let h = clamp-within x .le in is16 (clamp16Z x) (omega (arith, h))
+clamped16 x = let h = clamp-within x .le in is16 (clamp16Z x) (omega arith)
 
 -- ---- two bytes
 
@@ -82,16 +82,16 @@ pub output16 : (phase : EnvelopePhase) (level : ℕ) (sample : ℤ) → level �
 unfolding scaledOutput
 output16 phase level sample l h =
     let m = small16 sample h in
-    let p = level-law level l sample 0x7FFF (omega (arith, m)) tt .1 in
+    let p = level-law level l sample 0x7FFF (omega arith) tt .1 in
     let s = shr-law (2 ^ 11) (sample *ℤ pos level) (0x800 * suc 0x7FFF - 1) p tt .1 in
-    chosen Is16 (isOff phase) refl (is16 (levelledZ sample level) (omega (arith, s)))
+    chosen Is16 (isOff phase) refl (is16 (levelledZ sample level) (omega arith))
 
 even16 : (x : ℤ) → to16 x ≡ x → Is16 (even x)
 even16 x h =
     let m = small16 x h in
-    let s = shr-law 2 x 0x7FFF (omega (arith, m)) tt .1 in
-    let t = times-law 2 (x >> 1) 0x3FFF (omega (arith, s)) tt .1 in
-    is16 (even x) (omega (arith, t))
+    let s = shr-law 2 x 0x7FFF (omega arith) tt .1 in
+    let t = times-law 2 (x >> 1) 0x3FFF (omega arith) tt .1 in
+    is16 (even x) (omega arith)
 
 pub fir16 : (h t : List ℤ) → to16 (firOf h t) ≡ firOf h t
 unfolding firOf

@@ -1,6 +1,6 @@
 -- A play of records puts out the tape of its beats, behind what was put out before.
 use mathlib.Core.List.{List, [], _∷_, _++_, flatten, append-assoc, append-nil}
-use mathlib.Core.Path.{_≡_, refl, sym, ap, subst, _∙_}
+use mathlib.Core.Path.{_≡_, refl, sym, _∙_}
 use Prim.Native.Nat.{ℕ, zero, suc}
 use Rattle.dsp.specs.Tick.{Ticked, tickOf}
 use Rattle.dsp.specs.Ticks.{Bench, onward, benchTick, benchWrite, ticksOf}
@@ -41,7 +41,7 @@ plays-reading v y b q x h =
 ticks-last : (n : ℕ) (bs : List Beat) → ticksThen n (tick ∷ bs) ≡ tick ∷ ticksThen n bs
 unfolding ticksThen
 ticks-last zero bs = refl
-ticks-last (suc n) bs = ap (λ (l : List Beat). tick ∷ l) (ticks-last n bs)
+ticks-last (suc n) bs = rw (ticks-last n bs)
 
 -- the tape from where a bench stands
 abbrev tapeAt : Work → List Beat → Bench → Tape
@@ -53,7 +53,7 @@ plays-ticks w zero bs b q x h = h
 plays-ticks w (suc n) bs b q x h =
     let c = ticksOf w n b in
     let t = tickOf w (c .old) (c .parts) (c .ram) in
-    subst (λ (l : List Beat). Plays (tapeAt w l b) b q x) (ticks-last n bs) (plays-ticks w n (tick ∷ bs) b q x (plays-tick t (tapeAt w bs (onward c t)) c q x h))
+    rw (ticks-last n bs) at (plays-ticks w n (tick ∷ bs) b q x (plays-tick t (tapeAt w bs (onward c t)) c q x h))
 
 -- ---- a log
 

@@ -1,5 +1,5 @@
 -- A walk over the log's records: the fields, whether echo writing is off, and the set, from place to place.
-use mathlib.Core.Bool.{Bool, true, false, _&&_}
+use mathlib.Core.Bool.{Bool, _&&_, and-true, and-assoc}
 use mathlib.Core.List.{List}
 use mathlib.Core.Logic.{_≢_}
 use mathlib.Core.Path.{_≡_, refl, sym, ap, _∙_}
@@ -18,29 +18,21 @@ pub over-some : (n pmon a : ℕ) → a < 256 → n ≢ 0 → joinedOver n pmon a
 unfolding joinedOver
 over-some zero pmon a l h = absurd (h refl)
 over-some (suc zero) pmon a l h = refl
-over-some (suc (suc n)) pmon a l h = ap (joinedBy pmon) (over-some (suc n) pmon a l (λ e. absurd (omega (arith, e)))) ∙ joined-twice pmon a l
-
-and-assoc : (a b c : Bool) → (a && (b && c)) ≡ ((a && b) && c)
-and-assoc true b c = refl
-and-assoc false b c = refl
-
-pub and-true : (a : Bool) → (a && true) ≡ a
-and-true true = refl
-and-true false = refl
+over-some (suc (suc n)) pmon a l h = ap (joinedBy pmon) (over-some (suc n) pmon a l (λ e. absurd (omega arith))) ∙ joined-twice pmon a l
 
 module _ (log : List ℕ) (at : ℕ) {n : Next} (is : n ≡ readAt log at) (m : Fields) where
   pub quiet-on : {r : Record} {behind : ℕ} (q : Bool) → n ≡ On r behind → (q && quiet (recordsFrom log at) m) ≡ ((q && quietIn r m) && quiet (recordsFrom log behind) (modesBy r m))
   unfolding quiet
-  quiet-on {r} {behind} q e = ap (λ (rs : List Record). q && quiet rs m) (opened-at log at behind r (sym is ∙ e)) ∙ and-assoc q (quietIn r m) (quiet (recordsFrom log behind) (modesBy r m))
+  quiet-on {r} {behind} q e = rw (opened-at log at behind r (sym is ∙ e)) (sym (and-assoc q (quietIn r m) (quiet (recordsFrom log behind) (modesBy r m))))
 
   pub quiet-end : {k : ℕ} (q : Bool) → n ≡ Off k → (q && quiet (recordsFrom log at) m) ≡ q
   unfolding quiet
-  quiet-end {k} q e = ap (λ (rs : List Record). q && quiet rs m) (closed-at log at k (sym is ∙ e)) ∙ and-true q
+  quiet-end {k} q e = rw (closed-at log at k (sym is ∙ e)) (and-true q)
 
   pub members-on : {r : Record} {behind : ℕ} (a : ℕ) → n ≡ On r behind → members (recordsFrom log at) m a ≡ members (recordsFrom log behind) (modesBy r m) (joinedIn r m a)
   unfolding members
-  members-on {r} {behind} a e = ap (λ (rs : List Record). members rs m a) (opened-at log at behind r (sym is ∙ e))
+  members-on {r} {behind} a e = rw (opened-at log at behind r (sym is ∙ e))
 
   pub members-end : {k : ℕ} (a : ℕ) → n ≡ Off k → members (recordsFrom log at) m a ≡ a
   unfolding members
-  members-end {k} a e = ap (λ (rs : List Record). members rs m a) (closed-at log at k (sym is ∙ e))
+  members-end {k} a e = rw (closed-at log at k (sym is ∙ e))

@@ -1,12 +1,11 @@
 -- A rework: its refusals in their order, and what it leaves, for any old sheet (document 01, "Rework").
 use mathlib.Core.Bool.{Bool, false, not, _&&_}
 use mathlib.Core.List.{List}
-use Prim.Native.Nat.{ℕ, _-_, _/_, _%_}
-use lib.Bits.{bitAnd, bitOr}
+use Prim.Native.Nat.{ℕ, _/_, _%_}
 use lib.ListN.{getD, length}
 use Rattle.numbers.specs.Choice.{if_then_else_, _<?_, _=?_}
-use Rattle.numbers.specs.Bits.{bit}
-use Rattle.numbers.specs.Listed.{listed}
+use Rattle.numbers.specs.Bits.{bit, withBit}
+use Rattle.numbers.specs.Listed.{listed, turns}
 use Rattle.dsp.specs.Machine.{noVoice, Parts, apart, together}
 use Rattle.dsp.specs.PowerOn.{newDsp}
 use Rattle.dsp.specs.Fit.{fit}
@@ -28,10 +27,16 @@ picked d a new old = listed (λ j. if bit a j then getD new j d else getD old j 
 abbrev pub owns : ℕ → ℕ → Bool
 owns a i = (i % 16 <? 10) && bit a (i / 16)
 
+-- the ENDX bit of voice j
+abbrev pub endBit : ℕ → ℕ → ℕ → ℕ → ℕ
+endBit a new j x =
+    if bit a j then withBit x j (bit new j) else
+    x
+
 -- a register of the end record: of ENDX the set's bits are the new record's, and so are its voices' own registers
 abbrev pub endByte : ℕ → ℕ → ℕ → ℕ → ℕ
 endByte a i new old =
-    if i =? 0x7C then bitOr (bitAnd new a) (bitAnd old (255 - a % 256)) else
+    if i =? 0x7C then turns (endBit a new) 8 old else
     if owns a i then new else
     old
 

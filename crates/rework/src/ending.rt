@@ -4,10 +4,12 @@ ghost use Prim.Native.Nat.{_<_};
 ghost use lib.ListN.{length};
 ghost use Rattle.numbers.specs.Choice.{if_then_else_};
 ghost use Rattle.dsp.specs.Machine.{noVoice, apart, together};
-ghost use Rattle.rework.specs.Rework.{picked, endByte, pickedBytes, endParts};
+ghost use Rattle.numbers.specs.Listed.{turns};
+ghost use Rattle.rework.specs.Rework.{picked, endBit, endByte, pickedBytes, endParts};
 use dsp::Dsp;
 use dsp::Voice;
 use numbers::bit;
+use numbers::with_bit;
 
 fn voice_of(on: bool, new: Voice, old: Voice) -> Voice
     ensures { λ r. ⌜ r ≡ (if on then new else old) ⌝ }
@@ -48,13 +50,37 @@ fn pick_delays(set: u8, new: [u8; 8], old: [u8; 8]) -> [u8; 8]
     delays
 }
 
+// The ENDX bit of voice j is the new record's where the set has the voice.
+fn end_bit(set: u8, new: u8, j: usize, endx: u8) -> u8
+    requires { ⌜ j < 8 ⌝ }
+    ensures { λ r. ⌜ r ≡ endBit set new j endx ⌝ }
+{
+    if bit(set, j) {
+        with_bit(endx, j, bit(new, j))
+    } else {
+        endx
+    }
+}
+
+fn pick_endx(set: u8, new: u8, old: u8) -> u8
+    ensures { λ r. ⌜ r ≡ turns (endBit set new) 8 old ⌝ }
+{
+    let mut endx = old;
+    let mut j: usize = 0;
+    while j < 8 {
+        endx = end_bit(set, new, j, endx);
+        j += 1;
+    }
+    endx
+}
+
 // Of ENDX the set's bits are taken, and the voices' own registers $j0 to $j9.
 fn byte_of(set: u8, i: usize, new: u8, old: u8) -> u8
     requires { ⌜ i < 128 ⌝ }
     ensures { λ r. ⌜ r ≡ endByte set i new old ⌝ }
 {
     if i == 0x7C {
-        new & set | old & (255 - set)
+        pick_endx(set, new, old)
     } else if (i % 16 < 10) & bit(set, i / 16) {
         new
     } else {

@@ -1,12 +1,11 @@
 -- A TK record: its ticks go in one call, over the parts of the slices that are its own.
 use mathlib.Core.List.{List, _++_}
-use mathlib.Core.Path.{_≡_, sym, ap, _∙_}
+use mathlib.Core.Path.{_≡_, sym, _∙_}
 use Prim.Native.Nat.{ℕ, _+_, _-_, _*_, _≤_}
 use native.Mathlib.Omega.{arith}
 use lib.ListN.{length, take, drop, take-append-drop}
 use borrow.Rule.Slice.PartMut.{putMid, midOf, mid-len, post-is}
-use Rattle.numbers.proofs.Parts.{Written, written-to, done-is, rest-is, part-written}
-use Rattle.dsp.specs.Machine.{apart}
+use Rattle.numbers.proofs.Parts.{written-to, done-is, rest-is, part-written}
 use Rattle.dsp.specs.Fit.{Fit}
 use Rattle.dsp.specs.Ticks.{ticksOf, Drove, driveOf}
 use Rattle.dsp.specs.declared.registers.Dsp.{Dsp}
@@ -16,7 +15,7 @@ use Rattle.sitting.specs.Stand.{benchNow}
 
 -- the slice from p on: the part, then the rest
 parted : (p e : ℕ) (xs : List ℕ) → p ≤ e → midOf p (e - p) xs ++ drop e xs ≡ drop p xs
-parted p e xs h = ap (λ (l : List ℕ). midOf p (e - p) xs ++ l) (sym (post-is p e xs h)) ∙ take-append-drop (e - p) (drop p xs)
+parted p e xs h = rw (← post-is p e xs h) (take-append-drop (e - p) (drop p xs))
 
 -- of what the call leaves, the ticks of the definition
 pub batch : (w : Work) (n : ℕ) (d : Dsp) (ram pcm sheet : List ℕ) (t : ℕ) (x : Drove)
@@ -35,16 +34,10 @@ batch w n d ram pcm sheet t x lr f hp hs ex xp xs =
     let mp = mid-len a b pcm hp in
     let ms = mid-len p e sheet hs in
     let lo : length old ≡ n * 36 = ms ∙ omega arith in
-    let q = ex ∙ driven w n d ram (midOf a (b - a) pcm) old lr f (mp ∙ omega arith) lo in
-    let pcm′ = putMid a (b - a) pcm (x .pcm) in
-    let sheet′ = putMid p (e - p) sheet (x .sheet) in
-    let wp : Written pcm pcm′ b (take a pcm ++ x .pcm) = part-written (written-to a pcm (omega (arith, hp))) b (x .pcm) (omega arith) (xp ∙ mp) in
-    let ws : Written sheet sheet′ e (take p sheet ++ x .sheet) = part-written (written-to p sheet (omega (arith, hs))) e (x .sheet) (omega arith) (xs ∙ ms) in
+    let q = driven w n d ram (midOf a (b - a) pcm) old lr f (mp ∙ omega arith) lo in
+    let wp = part-written (written-to a pcm (omega (arith, hp))) b (x .pcm) (omega arith) (xp ∙ mp) in
+    let ws = part-written (written-to p sheet (omega (arith, hs))) e (x .sheet) (omega arith) (xs ∙ ms) in
     let eb : (t + n) * 4 ≡ b = omega arith in
     let ee : (t + n) * 36 ≡ e = omega arith in
-    let ps = ap (λ (m : ℕ). take m pcm′) eb ∙ done-is wp ∙ ap (λ (y : Drove). take a pcm ++ y .pcm) q in
-    let ss = ap (λ (m : ℕ). take m sheet′) ee ∙ done-is ws ∙ ap (λ (y : Drove). take p sheet ++ y .sheet) q in
-    let os = ap (λ (m : ℕ). drop m sheet′) ee ∙ rest-is ws in
-    (λ i. record { parts = apart (q i .dsp); ram = q i .ram; pcm = ps i; sheet = ss i; old = os i })
-    ∙ sym (ticks-batch w n d ram (take a pcm) (take p sheet) old (drop e sheet) lo)
-    ∙ (λ i. ticksOf w n (record { parts = apart d; ram = ram; pcm = take a pcm; sheet = take p sheet; old = parted p e sheet (omega arith) i }))
+    rw (eb, ee, done-is wp, done-is ws, rest-is ws, ex, q)
+    (sym (ticks-batch w n d ram (take a pcm) (take p sheet) old (drop e sheet) lo) ∙ rw (parted p e sheet (omega arith)))

@@ -1,7 +1,7 @@
 -- A whole run: the slices have room, and a run that works every lane does not see the sheet that it found.
 use mathlib.Core.Bool.{true, _&&_}
 use mathlib.Core.List.{List, [], _∷_}
-use mathlib.Core.Path.{_≡_, refl, ap, _∙_}
+use mathlib.Core.Path.{_≡_, refl, ap}
 use Prim.Native.Nat.{ℕ, zero, suc, _*_}
 use lib.ListN.{length}
 use Rattle.numbers.specs.Choice.{_=?_}
@@ -36,15 +36,15 @@ unfolding ticksOf benchTick
 ticks-unseen zero b = refl
 ticks-unseen (suc n) b =
     let f = ticksOf everything n b in
-    ap (onward (unseenBench f)) (tick-whole (f .old) [] (f .parts) (f .ram)) ∙ ap (benchTick everything) (ticks-unseen n b)
+    rw (← ticks-unseen n b) (ap (onward (unseenBench f)) (tick-whole (f .old) [] (f .parts) (f .ram)))
 
 play-unseen : (r : Record) (x : Run) → unseen (play everything r x) ≡ play everything r (unseen x)
 unfolding play
 play-unseen (Write r v) x = refl
-play-unseen (Ticks n) x = λ i. record { bench = ticks-unseen n (x .bench) i; readings = x .readings }
+play-unseen (Ticks n) x = rw (← ticks-unseen n (x .bench))
 play-unseen (Reading r) x = refl
 
 pub all-unseen : (rs : List Record) (x : Run) → unseen (playAll everything rs x) ≡ playAll everything rs (unseen x)
 unfolding playAll
 all-unseen [] x = refl
-all-unseen (r ∷ rs) x = all-unseen rs (play everything r x) ∙ ap (playAll everything rs) (play-unseen r x)
+all-unseen (r ∷ rs) x = rw (← play-unseen r x) (all-unseen rs (play everything r x))

@@ -1,9 +1,9 @@
 -- Part after part gives the run: what has been put out stays in front, ticks may be cut anywhere, and the place behind a record
 -- leaves the records behind it.
-use mathlib.Core.Bool.{_&&_}
+use mathlib.Core.Bool.{_&&_, true}
 use mathlib.Core.List.{List, [], _∷_, _++_, append-assoc, append-nil}
 use mathlib.Core.Logic.{_≢_}
-use mathlib.Core.Path.{_≡_, refl, sym, ap, subst, _∙_}
+use mathlib.Core.Path.{_≡_, refl, sym, ap, _∙_}
 use Prim.Native.Nat.{ℕ, zero, suc, _+_, _-_, _*_, _/_, _≤_}
 use native.Mathlib.Omega.{arith}
 use native.Mathlib.Nat.{add-suc, add-zero}
@@ -20,7 +20,6 @@ use Rattle.dsp.specs.Sheet.{pairBytes}
 use Rattle.dsp.specs.Tick.{everything, tickOf}
 use Rattle.dsp.specs.Ticks.{Bench, benchOf, benchTick, ticksOf}
 use Rattle.dsp.specs.declared.registers.Dsp.{Dsp}
-use Rattle.dsp.specs.declared.tick.Work.{Work}
 use Rattle.log.specs.Log.{readAt, decode, recordsFrom}
 use Rattle.log.specs.Measure.{measureOf}
 use Rattle.log.specs.declared.Measured.{Measured}
@@ -30,7 +29,7 @@ use Rattle.log.specs.declared.Next.{Next}
 use Rattle.log.specs.declared.Next.the-variants.{On, Off}
 use Rattle.log.proofs.Places.{opened-at, closed-at}
 use Rattle.sitting.specs.Play.{Run, registerIn, play, playAll, starting}
-use Rattle.sitting.specs.Parts.{Parted, untold, stopAt, recordAt, nextAt, ticksNow, sounding, logRefusal, partOf, Rest, restIn, restOf, ahead, PartAfterPart, PartsBegin, PartsEnd}
+use Rattle.sitting.specs.Parts.{Parted, unparted, stopAt, recordAt, nextAt, ticksNow, sounding, logRefusal, partOf, Rest, restIn, restOf, ahead, PartAfterPart, PartsBegin, PartsEnd}
 use Rattle.sitting.specs.Run.{Outcome, runMeasured, runWith}
 use Rattle.sitting.specs.declared.parts.Heard.the-variants.{End}
 use Rattle.sitting.proofs.Runs.{all-unseen}
@@ -43,134 +42,126 @@ frontBench p s b = record { parts = b .parts; ram = b .ram; pcm = p ++ b .pcm; s
 abbrev front : List ℕ → List ℕ → List ℕ → Run → Run
 front p s q x = record { bench = frontBench p s (x .bench); readings = q ++ x .readings }
 
-ticks-front : (w : Work) (n : ℕ) (p s : List ℕ) (b : Bench) → ticksOf w n (frontBench p s b) ≡ frontBench p s (ticksOf w n b)
-unfolding ticksOf benchTick
-ticks-front w zero p s b = refl
-ticks-front w (suc n) p s b =
-    let f = ticksOf w n b in
-    let u = tickOf w (f .old) (f .parts) (f .ram) in
-    ap (benchTick w) (ticks-front w n p s b)
-    ∙ (λ i. record { parts = u .parts; ram = u .ram; pcm = append-assoc p (f .pcm) (u .frame) i; sheet = append-assoc s (f .sheet) (u .row) i; old = drop 36 (f .old) })
+module _ (p s q : List ℕ) where
+  ticks-front : (n : ℕ) (b : Bench) → ticksOf everything n (frontBench p s b) ≡ frontBench p s (ticksOf everything n b)
+  unfolding ticksOf benchTick
+  ticks-front zero b = refl
+  ticks-front (suc n) b = rw (ticks-front n b) (simp append-assoc)
 
-play-front : (w : Work) (r : Record) (p s q : List ℕ) (x : Run) → play w r (front p s q x) ≡ front p s q (play w r x)
-unfolding play
-play-front w (Write r v) p s q x = refl
-play-front w (Ticks n) p s q x = λ i. record { bench = ticks-front w n p s (x .bench) i; readings = q ++ x .readings }
-play-front w (Reading r) p s q x = λ i. record { bench = frontBench p s (x .bench); readings = append-assoc q (x .readings) (registerIn (x .bench) r ∷ []) i }
+  play-front : (r : Record) (x : Run) → play everything r (front p s q x) ≡ front p s q (play everything r x)
+  unfolding play
+  play-front (Write r v) x = refl
+  play-front (Ticks n) x = rw (ticks-front n (x .bench))
+  play-front (Reading r) x = rw append-assoc
 
-all-front : (w : Work) (rs : List Record) (p s q : List ℕ) (x : Run) → playAll w rs (front p s q x) ≡ front p s q (playAll w rs x)
-unfolding playAll
-all-front w [] p s q x = refl
-all-front w (r ∷ rs) p s q x = ap (playAll w rs) (play-front w r p s q x) ∙ all-front w rs p s q (play w r x)
+  all-front : (rs : List Record) (x : Run) → playAll everything rs (front p s q x) ≡ front p s q (playAll everything rs x)
+  unfolding playAll
+  all-front [] x = refl
+  all-front (r ∷ rs) x = rw (play-front r x) (all-front rs (play everything r x))
 
 -- ---- ticks
 
-ticks-cut : (w : Work) (n m : ℕ) (b : Bench) → ticksOf w (n + m) b ≡ ticksOf w m (ticksOf w n b)
+ticks-cut : (n m : ℕ) (b : Bench) → ticksOf everything (n + m) b ≡ ticksOf everything m (ticksOf everything n b)
 unfolding ticksOf
-ticks-cut w n zero b = ap (λ (k : ℕ). ticksOf w k b) (add-zero n)
-ticks-cut w n (suc m) b = ap (λ (k : ℕ). ticksOf w k b) (add-suc n m) ∙ ap (benchTick w) (ticks-cut w n m b)
+ticks-cut n zero b = rw add-zero
+ticks-cut n (suc m) b = rw add-suc (ap (benchTick everything) (ticks-cut n m b))
 
-heard-size : (w : Work) (n : ℕ) (b : Bench) → length (ticksOf w n b .pcm) ≡ length (b .pcm) + n * 4
+heard-size : (n : ℕ) (b : Bench) → length (ticksOf everything n b .pcm) ≡ length (b .pcm) + n * 4
 unfolding ticksOf benchTick tickOf pairBytes
-heard-size w zero b = omega arith
-heard-size w (suc n) b = let e = heard-size w n b in length-append (ticksOf w n b .pcm) _ ∙ omega (arith, e)
+heard-size zero b = omega arith
+heard-size (suc n) b = rw length-append (omega (arith, heard-size n b))
 
-old-none : (w : Work) (n : ℕ) (d : Dsp) (ram : List ℕ) → ticksOf w n (benchOf d ram []) .old ≡ []
+old-none : (n : ℕ) (d : Dsp) (ram : List ℕ) → ticksOf everything n (benchOf d ram []) .old ≡ []
 unfolding ticksOf benchTick
-old-none w zero d ram = refl
-old-none w (suc n) d ram = ap (drop 36) (old-none w n d ram) ∙ drop-nil 36
+old-none zero d ram = refl
+old-none (suc n) d ram = rw (old-none n d ram) (drop-nil 36)
 
 -- ---- a part
 
--- what is promised of a part that came to p
-abbrev After : Dsp → ℕ → ℕ → List ℕ → List ℕ → Parted → Type 0
-After d at left ram log p = p .told .refusal ≡ 0 → restOf d at left ram log ≡ ahead (p .told .heard) (p .pcm) (restOf (p .told .dsp) (p .told .at) (p .told .left) (p .ram) log)
+module _ (d : Dsp) (at left : ℕ) (ram log : List ℕ) where
+  -- what is promised of a part that came to p
+  abbrev After : Parted → Type 0
+  After p = p .told .refusal ≡ 0 → restOf d at left ram log ≡ ahead (p .told .heard) (p .pcm) (restOf (p .told .dsp) (p .told .at) (p .told .left) (p .ram) log)
 
-abbrev Last : Dsp → ℕ → ℕ → List ℕ → List ℕ → Parted → Type 0
-Last d at left ram log p = p .told .heard ≡ End → restOf d at left ram log ≡ record { pcm = []; readings = []; dsp = d; ram = ram }
+  abbrev Last : Parted → Type 0
+  Last p = p .told .heard ≡ End → restOf d at left ram log ≡ record { pcm = []; readings = []; dsp = d; ram = ram }
 
--- the rest at a record, by the records from it on
-abbrev restBy : Dsp → List ℕ → List Record → Rest
-restBy d ram rs = restIn (playAll everything (Ticks 0 ∷ rs) (starting d ram []))
+module _ (d : Dsp) (at : ℕ) (ram log pcm : List ℕ) where
+  abbrev At : Next → Parted
+  At n = record { told = nextAt n d at; ram = ram; pcm = pcm }
 
-stop-after : (k : ℕ) (d : Dsp) (at : ℕ) (ram log pcm : List ℕ) → After d at 0 ram log (record { told = stopAt k d at; ram = ram; pcm = pcm })
-unfolding stopAt
-stop-after zero d at ram log pcm = λ e. refl
-stop-after (suc k) d at ram log pcm =
-    rw (ne-eqb (suc k) 0 (omega arith)) (λ e. absurd (omega arith))
+  next-after : (n : Next) → readAt log at ≡ n → After d at 0 ram log (At n)
+  unfolding nextAt recordAt stopAt restOf playAll play ticksOf writeAt
+  next-after (Off zero) e = λ z. refl
+  next-after (Off (suc k)) e = rw (ne-eqb (suc k) 0 (omega arith)) (λ z. absurd (omega arith))
+  next-after (On (Write r v) behind) e = λ z. rw (opened-at log at behind (Write r v) e)
+  next-after (On (Ticks n) behind) e = λ z. rw (opened-at log at behind (Ticks n) e)
+  next-after (On (Reading r) behind) e =
+      λ z. rw (opened-at log at behind (Reading r) e, all-front [] [] (registerIn (benchOf d ram []) r ∷ []) (recordsFrom log behind) (starting d ram []))
 
-next-after : (n : Next) (d : Dsp) (at : ℕ) (ram log pcm : List ℕ) → readAt log at ≡ n → After d at 0 ram log (record { told = nextAt n d at; ram = ram; pcm = pcm })
-unfolding nextAt recordAt restOf playAll play ticksOf writeAt
-next-after (Off k) d at ram log pcm e = stop-after k d at ram log pcm
-next-after (On (Write r v) behind) d at ram log pcm e = λ z. ap (restBy d ram) (opened-at log at behind (Write r v) e)
-next-after (On (Ticks n) behind) d at ram log pcm e = λ z. ap (restBy d ram) (opened-at log at behind (Ticks n) e)
-next-after (On (Reading r) behind) d at ram log pcm e =
-    λ z. ap (restBy d ram) (opened-at log at behind (Reading r) e) ∙ ap restIn (all-front everything (recordsFrom log behind) [] [] (registerIn (benchOf d ram []) r ∷ []) (starting d ram []))
+  next-last : (n : Next) → readAt log at ≡ n → Last d at 0 ram log (At n)
+  unfolding nextAt recordAt stopAt restOf playAll play ticksOf
+  next-last (Off zero) e = λ z. rw (closed-at log at 0 e)
+  next-last (Off (suc k)) e = rw (ne-eqb (suc k) 0 (omega arith)) (λ z. cc)
+  next-last (On (Write r v) behind) e = λ z. cc
+  next-last (On (Ticks n) behind) e = λ z. cc
+  next-last (On (Reading r) behind) e = λ z. cc
 
-stop-last : (k : ℕ) (d : Dsp) (at : ℕ) (ram log pcm : List ℕ) → readAt log at ≡ Off k → Last d at 0 ram log (record { told = stopAt k d at; ram = ram; pcm = pcm })
-unfolding stopAt restOf playAll play ticksOf
-stop-last zero d at ram log pcm e = λ z. ap (restBy d ram) (closed-at log at 0 e)
-stop-last (suc k) d at ram log pcm e = rw (ne-eqb (suc k) 0 (omega arith)) (λ z. let y : _≡_ {A = ℕ} 0 1 = cc in absurd (omega arith))
-
-next-last : (n : Next) (d : Dsp) (at : ℕ) (ram log pcm : List ℕ) → readAt log at ≡ n → Last d at 0 ram log (record { told = nextAt n d at; ram = ram; pcm = pcm })
-unfolding nextAt recordAt
-next-last (Off k) d at ram log pcm e = stop-last k d at ram log pcm e
-next-last (On (Write r v) behind) d at ram log pcm e = λ z. let y : _≡_ {A = ℕ} 0 1 = cc in absurd (omega arith)
-next-last (On (Ticks n) behind) d at ram log pcm e = λ z. let y : _≡_ {A = ℕ} 0 1 = cc in absurd (omega arith)
-next-last (On (Reading r) behind) d at ram log pcm e = λ z. let y : _≡_ {A = ℕ} 0 1 = cc in absurd (omega arith)
-
-sound-after : (n : ℕ) (d : Dsp) (at left : ℕ) (ram log pcm : List ℕ) → n ≤ left → After d at left ram log (sounding n d at left ram pcm)
-unfolding sounding restOf playAll play
-sound-after n d at left ram log pcm l =
-    let rs = recordsFrom log at in
-    let b = ticksOf everything n (benchOf d ram []) in
-    let c = benchOf (together (b .parts)) (b .ram) [] in
-    let m = left - n in
-    let el : left ≡ n + m = omega arith in
-    let eb : b ≡ frontBench (b .pcm) (b .sheet) c = (λ i. record { parts = b .parts; ram = b .ram; pcm = sym (append-nil (b .pcm)) i; sheet = sym (append-nil (b .sheet)) i; old = old-none everything n d ram i }) in
-    let e₁ : ticksOf everything left (benchOf d ram []) ≡ frontBench (b .pcm) (b .sheet) (ticksOf everything m c) =
-    ap (λ (k : ℕ). ticksOf everything k (benchOf d ram [])) el ∙ ticks-cut everything n m (benchOf d ram []) ∙ ap (ticksOf everything m) eb ∙ ticks-front everything m (b .pcm) (b .sheet) c in
-    let e₂ = all-front everything rs (b .pcm) (b .sheet) [] (record { bench = ticksOf everything m c; readings = [] }) in
-    let r = restIn (playAll everything rs (record { bench = ticksOf everything m c; readings = [] })) in
-    let e₃ = take-at (b .pcm) (drop (n * 4) pcm) (n * 4) (heard-size everything n (benchOf d ram []) ∙ omega arith) in
-    λ z.
-    ap (λ (x : Bench). restIn (playAll everything rs (record { bench = x; readings = [] }))) e₁
-    ∙ ap restIn e₂
-    ∙ (λ i. record { pcm = sym e₃ i ++ r .pcm; readings = r .readings; dsp = r .dsp; ram = r .ram })
+  sound-after : (n left : ℕ) → n ≤ left → After d at left ram log (sounding n d at left ram pcm)
+  unfolding sounding restOf playAll play
+  sound-after n left l =
+      let rs = recordsFrom log at in
+      let b = ticksOf everything n (benchOf d ram []) in
+      let c = benchOf (together (b .parts)) (b .ram) [] in
+      let m = left - n in
+      let el : left ≡ n + m = omega arith in
+      let eb : b ≡ frontBench (b .pcm) (b .sheet) c = simp append-nil (λ i. record { parts = b .parts; ram = b .ram; pcm = b .pcm; sheet = b .sheet; old = old-none n d ram i }) in
+      let e₁ : ticksOf everything left (benchOf d ram []) ≡ frontBench (b .pcm) (b .sheet) (ticksOf everything m c) =
+      cc (ticks-cut n m (benchOf d ram []), ticks-front (b .pcm) (b .sheet) [] m c) in
+      let e₂ = all-front (b .pcm) (b .sheet) [] rs (record { bench = ticksOf everything m c; readings = [] }) in
+      let e₃ = take-at (b .pcm) (drop (n * 4) pcm) (n * 4) (heard-size n (benchOf d ram []) ∙ omega arith) in
+      λ z. ap (λ (x : Bench). restIn (playAll everything rs (record { bench = x; readings = [] }))) e₁ ∙ ap restIn e₂ ∙ rw e₃
 
 -- ---- by the tests of a part
 
-by-tests : (P : Parted → Type 0) (d : Dsp) (at left : ℕ) (ram log pcm : List ℕ)
-    → ((k : ℕ) → k ≢ 0 → P (record { told = untold k d at left; ram = ram; pcm = pcm }))
-    → (left ≡ 0 → P (record { told = nextAt (readAt log at) d at; ram = ram; pcm = pcm }))
-    → P (sounding (ticksNow left (length pcm)) d at left ram pcm)
-    → P (partOf d at left ram log pcm)
-unfolding partOf
-by-tests P d at left ram log pcm refusal next sound =
-    let owed : (k : ℕ) → suc k ≢ 0 = (λ k e. absurd (omega arith)) in
-    tested P (length ram =? 0x10000) (λ _. tested P (fit d) (λ _. tested P (logRefusal at log =? 0)
-    (λ _. tested P (left =? 0) (λ e. next (eqb-true left 0 e)) (λ _. tested P (length pcm <? 4) (λ _. refusal 10 (owed 9)) (λ _. sound)))
-    (λ e. refusal (logRefusal at log) (eqb-false (logRefusal at log) 0 e))) (λ _. refusal 2 (owed 1)))
-    (λ _. refusal 1 (owed 0))
+-- what a part that is not refused has passed
+pub record Admitted (d : Dsp) (at : ℕ) (ram log : List ℕ) : Type 0 where
+  pub ram-is : length ram ≡ 0x10000
+  pub fit-is : fit d ≡ true
+  pub log-is : logRefusal at log ≡ 0
+
+module _ (P : Parted → Type 0) (d : Dsp) (at left : ℕ) (ram log pcm : List ℕ) where
+  pub by-tests : ((k : ℕ) → k ≢ 0 → P (unparted k d at left ram pcm))
+      → (Admitted d at ram log → left ≡ 0 → P (record { told = nextAt (readAt log at) d at; ram = ram; pcm = pcm }))
+      → (Admitted d at ram log → P (sounding (ticksNow left (length pcm)) d at left ram pcm))
+      → P (partOf d at left ram log pcm)
+  unfolding partOf
+  by-tests refusal next sound =
+      let owed : (k : ℕ) → suc k ≢ 0 = (λ k e. absurd (omega arith)) in
+      tested P (length ram =? 0x10000) (λ r. tested P (fit d) (λ f. tested P (logRefusal at log =? 0)
+      (λ l. let a : Admitted d at ram log = record { ram-is = eqb-true _ _ r; fit-is = f; log-is = eqb-true _ _ l } in
+      tested P (left =? 0) (λ e. next a (eqb-true left 0 e)) (λ _. tested P (length pcm <? 4) (λ _. refusal 10 (owed 9)) (λ _. sound a)))
+      (λ e. refusal (logRefusal at log) (eqb-false (logRefusal at log) 0 e))) (λ _. refusal 2 (owed 1)))
+      (λ _. refusal 1 (owed 0))
 
 now-few : (left room : ℕ) → ticksNow left room ≤ left
 unfolding ticksNow
-now-few left room = let a = least-both (room / 4) (least left 64) in let b = least-both left 64 in omega (arith, a .1, b .0)
+now-few left room = omega (arith, least-both (room / 4) (least left 64), least-both left 64)
 
 pub part-after-part : PartAfterPart
 part-after-part d at left ram log pcm =
     by-tests (After d at left ram log) d at left ram log pcm
     (λ k h e. absurd (h e))
-    (λ z. subst (λ (l : ℕ). After d at l ram log (record { told = nextAt (readAt log at) d at; ram = ram; pcm = pcm })) (sym z) (next-after (readAt log at) d at ram log pcm refl))
-    (sound-after (ticksNow left (length pcm)) d at left ram log pcm (now-few left (length pcm)))
+    (λ a z. rw z (next-after d at ram log pcm (readAt log at) refl))
+    (λ a. sound-after d at ram log pcm (ticksNow left (length pcm)) left (now-few left (length pcm)))
 
 pub parts-end : PartsEnd
 unfolding sounding
 parts-end d at left ram log pcm =
     by-tests (Last d at left ram log) d at left ram log pcm
-    (λ k h e. let y : _≡_ {A = ℕ} 0 1 = cc in absurd (omega arith))
-    (λ z. subst (λ (l : ℕ). Last d at l ram log (record { told = nextAt (readAt log at) d at; ram = ram; pcm = pcm })) (sym z) (next-last (readAt log at) d at ram log pcm refl))
-    (λ e. let y : _≡_ {A = ℕ} 0 1 = cc in absurd (omega arith))
+    (λ k h e. cc)
+    (λ a z. rw z (next-last d at ram log pcm (readAt log at) refl))
+    (λ a e. cc)
 
 -- ---- before the first part
 

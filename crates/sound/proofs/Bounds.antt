@@ -1,12 +1,12 @@
 -- What a tick period, a level after a step and the noise register stay within.
-use mathlib.Core.Bool.{Bool, _&&_, true}
-use mathlib.Core.List.{List, [], _∷_}
-use Prim.Native.Nat.{ℕ, zero, suc, _+_, _/_, _%_, _≤_}
+use mathlib.Core.Path.{refl}
+use Prim.Native.Nat.{ℕ, _+_, _/_, _%_, _≤_}
 use native.Mathlib.Omega.{arith}
-use lib.Dec.{T, leb, leb→le}
-use lib.ListN.{getD}
+use lib.Dec.{leb}
+use borrow.Author.Tests.{leb-true}
 use Rattle.numbers.specs.Choice.{_<?_, _=?_}
-use Rattle.numbers.proofs.Range.{and-l, and-r}
+use Rattle.numbers.specs.Listed.{all}
+use Rattle.numbers.proofs.Lists.{all-at}
 use Rattle.numbers.proofs.Choice.{chosen, least-le}
 use Rattle.sound.specs.Clock.{periods, periodOf}
 use Rattle.sound.specs.Envelope.{lowered, gained}
@@ -14,18 +14,9 @@ use Rattle.sound.specs.Noise.{shifted}
 
 -- ---- the clock: no period is above 2048, by one test of the table
 
-abbrev all-le : ℕ → List ℕ → Bool
-all-le m [] = true
-all-le m (x ∷ xs) = leb x m && all-le m xs
-
-each-le : (m : ℕ) (xs : List ℕ) → T (all-le m xs) → (i : ℕ) → getD xs i 0 ≤ m
-each-le m [] t i = omega arith
-each-le m (x ∷ xs) t zero = leb→le x m (and-l (leb x m) (all-le m xs) t)
-each-le m (x ∷ xs) t (suc i) = each-le m xs (and-r (leb x m) (all-le m xs) t) i
-
 pub period-le : (n : ℕ) → periodOf n ≤ 2048
-unfolding periodOf periods
-period-le n = each-le 2048 periods tt n
+unfolding periodOf periods all
+period-le n = leb-true _ _ (all-at (λ x. leb x 2048) 0 periods refl refl n)
 
 -- ---- the envelope
 

@@ -42,7 +42,7 @@ scaled-law s x m p t =
     (refl, scaled-by x s (leb s 12) (ltZ x (pos 0)) (record { le = le-trans p (leb→le m 7 t) }) (leb→le s 12) .le)
 
 abbrev pub q-scaled : (s : ℕ) {a : ℤ} → Q a → Q (scaledZ a s)
-q-scaled s p = q-1 (λ x. scaledZ x s) (λ x. scaledZ x s) (λ m. 16388) (λ m. leb m 7) (scaled-law s) p
+q-scaled s p = q-1 (λ x. scaledZ x s) (λ x. scaledZ x s) _ (λ m. leb m 7) (scaled-law s) p
 
 -- ---- the filter
 
@@ -60,6 +60,6 @@ filter-law f x y m n p q t =
     (record { le = le-trans q (leb→le n 0x7FFF (and-r (leb m 0x7FFF) (leb n 0x7FFF) t)) }) .le
 
 abbrev pub q-filter : (f : ℕ) {a b : ℤ} → Q a → Q b → Q (filterZ f a b)
-q-filter f p q = q-2 (filterZ f) (λ m n. 150000) (λ m n. leb m 0x7FFF && leb n 0x7FFF) (filter-law f) p q
+q-filter f p q = q-2 (filterZ f) _ (λ m n. leb m 0x7FFF && leb n 0x7FFF) (filter-law f) p q
 
 pub ruleset nibbles = (q-scaled, q-filter, q-pow2, calls)

@@ -3,6 +3,7 @@
 use mathlib.Core.Path.{_≡_, refl, ap}
 use mathlib.Core.List.{List}
 use Prim.Native.Nat.{ℕ, zero, suc, _+_, _-_, _<_}
+use native.Mathlib.Nat.{add-zero, add-suc}
 use native.Mathlib.Omega.{arith}
 use lib.IntN.{ℤ, pos}
 use lib.ListN.{getD}
@@ -36,10 +37,8 @@ entry table i e = ap (λ (t : List ℤ). getD t i (pos 0)) e
 -- ---- the order, from neighbours to any two entries, and to the four taps of an index
 
 rises : (i k : ℕ) → i + k < 512 → weightAt i ≤ℤ weightAt (i + k)
-rises i zero h = let z : i + 0 ≡ i = omega arith in rw z (≤ℤ-refl (weightAt i))
-rises i (suc k) h =
-    let z : i + suc k ≡ suc (i + k) = omega arith in
-    rw z (≤ℤ-trans (rises i k (omega arith)) (weights-ordered (i + k) (omega arith)))
+rises i zero h = rw add-zero (≤ℤ-refl _)
+rises i (suc k) h = rw add-suc (≤ℤ-trans (rises i k (omega arith)) (weights-ordered (i + k) (omega arith)))
 
 -- an outer tap never outweighs the inner one on its side
 pub taps-ordered : (i : ℕ) → i < 256 → (weightAt (255 - i) ≤ℤ weightAt (511 - i)) × (weightAt i ≤ℤ weightAt (i + 256))

@@ -1,10 +1,9 @@
 -- The first i bytes are copied, the others as they were found.
 use borrow.Author.Needs.{needs}
-use mathlib.Core.List.{List}
-use Prim.Native.Nat.{ℕ, _+_, _-_, _≤_, _<_}
+use Prim.Native.Nat.{_-_, _≤_}
 use native.Mathlib.Omega.{arith}
 use native.Mathlib.Numerals.{add-one}
-use lib.ListN.{length, take, set, getD}
+use lib.ListN.{length, take, getD}
 use lib.Seq.{take-suc}
 use Rattle.numbers.proofs.Parts.{Written, unwritten, sized, stored, copied-all, copied-full}
 use Rattle.numbers.proofs.copy.Statement.{statement}
@@ -16,23 +15,21 @@ Inv-loop from to₀ i₀ to i = (i ≤ length from) × (i ≤ length to₀) × W
 abbrev μ-loop : tie.MeasureT-loop
 μ-loop from to₀ i₀ to i = length from - i
 
-one-more : (from : List ℕ) {to new : List ℕ} {i : ℕ} → Written to new i (take i from) → i < length from → i < length to
-    → Written to (set new i (getD from i 0)) (i + 1) (take (i + 1) from)
-one-more from {to} {new} {i} w h k = rw (add-one i, take-suc from i 0) (rw (add-one i) at (stored w (getD from i 0) k))
-
 returns : tie.Need-returns Inv-loop μ-loop
-returns c = let l = c .before .before .loop in let s = sized (l .inv .2) (l .inv .1) in copied-full _ (l .inv .2) (omega (arith, s, c .if1 .taken)) (l .inv .0)
+returns c =
+    let l = c .before .before .loop in
+    let s = sized (l .inv .2) (l .inv .1) in
+    copied-full _ (l .inv .2) (omega arith) (l .inv .0)
 
 slice-write-to : tie.Need-slice-write-to Inv-loop μ-loop
-slice-write-to c = let l = c .before .before .before .loop in let s = sized (l .inv .2) (l .inv .1) in omega (arith, s, c .before .if1 .left)
+slice-write-to c = let l = c .before .before .before .loop in let s = sized (l .inv .2) (l .inv .1) in omega arith
 
 loop-again : tie.Need-loop-again Inv-loop μ-loop
 loop-again c =
     let l = c .before .before .before .loop in
     let s = sized (l .inv .2) (l .inv .1) in
-    let t = c .before .before .loop-test .taken in
-    let h : l .i < length (c .before .before .before .before .args .to .now) = omega (arith, s, c .before .if1 .left) in
-    (omega arith, omega arith, one-more _ (l .inv .2) t h)
+    let from = c .before .before .before .before .args .from .now in
+    (omega arith, omega arith, rw (add-one (l .i), take-suc from (l .i) 0 (omega arith)) (rw (add-one (l .i)) at (stored (l .inv .2) (getD from (l .i) 0) (omega arith))))
 
 pub copy-spec : {M : Type 1} → statement M
 copy-spec =
@@ -49,4 +46,4 @@ copy-spec =
     (λ c. search needs)
     loop-again
     (λ c. let l = c .before .loop in sized (l .inv .2) (l .inv .1))
-    (λ c. let l = c .before .loop in copied-all _ (l .inv .2) (omega (arith, l .inv .0, c .loop-test .left)) (l .inv .1)))
+    (λ c. let l = c .before .loop in copied-all _ (l .inv .2) (omega arith) (l .inv .1)))

@@ -29,10 +29,10 @@ pub tick-due-spec : {M : Type 1} → statement M
 tick-due-spec =
     tie.close
     (tie.spec
-    (λ c. search needs)
+    (search needs)
     shared-slice-read-period
-    (λ c. search needs)
-    (λ c. search needs)
+    (search needs)
+    (search needs)
     returns
     returns-2
     returns-3)

@@ -6,9 +6,8 @@ use native.Mathlib.Omega.{arith}
 use lib.ListN.{length-set}
 use mir.Syntax.{w16}
 use mir.Val.{toZ}
-use mir.ValLaws.{toZ-ofZ}
+use mir.Facts.{toZ-ofZ}
 use Rattle.numbers.proofs.Range.{landed}
-use Rattle.dsp.specs.Brr.{decodeBlock}
 use Rattle.dsp.proofs.Blocks.{UpTo, none, two-more, whole}
 use Rattle.dsp.proofs.brr.decode_brr_block.Statement.{statement}
 use Rattle.dsp.proofs.brr.decode_brr_block.Tie as tie
@@ -30,11 +29,9 @@ loop-again c =
 returns : tie.Need-returns Inv-loop μ-loop
 returns c =
     let l = c .before .loop in
-    let s = c .before .before .before .before in
-    let e₁ = toZ-ofZ w16 (s .args .prev1) (s .fits .prev1) in
-    let e₂ = toZ-ofZ w16 (s .args .prev2) (s .fits .prev2) in
+    let f = c .before .before .before .before .fits in
     let n : l .i * 2 ≡ 16 = omega arith in
-    whole _ _ _ _ _ _ _ _ _ n (c .before .before .ram-read8 .ensures) (l .inv .1) ∙ (λ i. decodeBlock (s .args .ram .now) (s .args .addr) (e₁ i) (e₂ i))
+    rw (← toZ-ofZ (f .prev1), ← toZ-ofZ (f .prev2)) (whole _ _ _ _ _ _ _ _ _ n (c .before .before .ram-read8 .ensures) (l .inv .1))
 
 pub decode-brr-block-spec : {M : Type 1} → statement M
 decode-brr-block-spec =
@@ -42,22 +39,22 @@ decode-brr-block-spec =
     (tie.spec
     Inv-loop
     μ-loop
-    (λ c κs. search needs)
+    (search needs)
     (λ c. (search needs, none _ _ _ _ _ (c .before .before .pre .1)))
-    (λ c. search needs)
-    (λ c. search needs)
-    (λ c κs. search needs)
-    (λ c κs. search needs)
-    (λ c. search needs)
-    (λ c. search needs)
-    (λ c. search needs)
-    (λ c κs. search needs)
-    (λ c. search needs)
-    (λ c. search needs)
-    (λ c. search needs)
+    (search needs)
+    (search needs)
+    (search needs)
+    (search needs)
+    (search needs)
+    (search needs)
+    (search needs)
+    (search needs)
+    (search needs)
+    (search needs)
+    (search needs)
     (λ c. rw length-set (omega (arith, c .before .before .before .before .loop .inv .1 .sized)))
-    (λ c. search needs)
-    (λ c. search needs)
+    (search needs)
+    (search needs)
     loop-again
-    (λ c. search needs)
+    (search needs)
     returns)

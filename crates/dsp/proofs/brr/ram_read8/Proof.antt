@@ -9,10 +9,4 @@ unfolding byteAt
 returns c = rw (c .before .wrapping-add16 .ensures)
 
 pub ram-read8-spec : {M : Type 1} → statement M
-ram-read8-spec =
-    tie.close
-    (tie.spec
-    (λ c κs. search needs)
-    (λ c. search needs)
-    (λ c. search needs)
-    returns)
+ram-read8-spec = tie.close (tie.spec (search needs) (search needs) (search needs) returns)

@@ -1,17 +1,14 @@
 -- The callee of each branch.
 use borrow.Author.Needs.{needs}
-use mir.Syntax.{w16}
-use mir.ValLaws.{toZ-ofZ}
+use mir.Facts.{toZ-ofZ}
 use Rattle.dsp.proofs.lane.cell.Statement.{statement}
 use Rattle.dsp.proofs.lane.cell.Tie as tie
 
 returns : tie.Need-returns
-returns c = let a = c .before .before .before .before .before .before .args in
-    let e = toZ-ofZ w16 (a .prev) (c .before .before .before .before .before .before .fits .prev) in
-    rw (c .before .if1 .taken, ← e) (c .own-cell .ensures)
+returns c = rw (c .before .if1 .taken, ← toZ-ofZ (c .before .before .before .before .before .before .fits .prev)) (c .own-cell .ensures)
 
 returns-2 : tie.Need-returns-2
 returns-2 c = rw (c .before .if1 .left) (c .shown-cell .ensures)
 
 pub cell-spec : {M : Type 1} → statement M
-cell-spec = tie.close (tie.spec (λ c κs. search needs) (λ c κs. search needs) returns returns-2)
+cell-spec = tie.close (tie.spec (λ c κs. search needs) (search needs) returns returns-2)

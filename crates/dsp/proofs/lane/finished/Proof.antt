@@ -1,14 +1,14 @@
 -- The callees, with the read-backs removed.
 use borrow.Author.Needs.{needs}
 use native.Mathlib.Nat.{mod-eq-of-lt}
-use mathlib.Core.Path.{_≡_, _∙_, sym, ap, subst}
+use mathlib.Core.Path.{_≡_, sym, ap, subst}
 use Prim.Native.Nat.{_<_, _≤_}
 use lib.Signed.{mag}
 use mir.Syntax.{w16}
 use Rattle.numbers.proofs.Range.{landed}
 use Rattle.numbers.specs.Bits.{bit}
 use Rattle.dsp.specs.Voice.{Sounding}
-use Rattle.dsp.specs.Mix.{scaledOutput, outputOf}
+use Rattle.dsp.specs.Mix.{outputOf}
 use Rattle.dsp.specs.Lane.{noised, Cell, cellAfter}
 use Rattle.dsp.specs.Inside.{asVoice, asSounding}
 use Rattle.dsp.proofs.lane.finished.Statement.{statement}
@@ -22,13 +22,14 @@ sample-small : (c : tie.After-struct-told2) → mag (c .before .before .noised .
 sample-small c = c .struct-told2 .given .1 .1 .1 .1 .1 .1 .1 .1 .1 .0 .1
 
 is-noised : (c : tie.After-noised)
-    → _≡_ {A = Sounding} (asSounding (c .before .before .before .before .args .v) (c .noised .result) (c .before .before .before .before .args .samples)) (record { voice = noised (bit (c .before .before .before .before .args .c .non) (c .before .before .before .before .args .j)) (c .before .before .before .before .args .c .noise) (asVoice (c .before .before .before .before .args .v) (c .before .before .before .before .args .h .play) (c .before .before .before .before .args .samples)); endx = c .before .before .before .before .args .h .play .endx })
+    → let a = c .before .before .before .before .args in
+    _≡_ {A = Sounding} (asSounding (a .v) (c .noised .result) (a .samples))
+    (record { voice = noised (bit (a .c .non) (a .j)) (a .c .noise) (asVoice (a .v) (a .h .play) (a .samples)); endx = a .h .play .endx })
 is-noised c =
     let s = c .before .before .before .before in
     let a = s .args in
     let non = rw (mod-eq-of-lt (s .pre .0)) at (c .before .before .bit .ensures) in
-    c .noised .ensures (a .v) (a .samples)
-    ∙ (λ i. record { voice = noised (non i) (landed w16 {z = a .c .noise} (noise-small (c .before)) i) (asVoice (a .v) (a .h .play) (a .samples)); endx = a .h .play .endx })
+    rw (← non, ← landed w16 {z = a .c .noise} (noise-small (c .before))) (c .noised .ensures (a .v) (a .samples))
 
 scaled-output-requires : tie.Need-scaled-output-requires
 unfolding noised
@@ -40,19 +41,12 @@ scaled-output-requires c κs =
 returns : tie.Need-returns
 unfolding cellAfter
 returns c =
-    let a = c .before .before .before .before .before .before .before .before .args in
-    let n = c .before .before .before .before .noised .result in
-    let e = landed w16 {z = n .«current_sample»} (sample-small (c .before .before)) in
-    let o = landed w16 (c .before .scaled-output .ok) ∙ c .before .scaled-output .ensures ∙ ap (scaledOutput (n .envelope .phase) (n .envelope .level)) e in
-    let F : Sounding → Cell = λ (s : Sounding). record { voice = s .voice; delay = a .h .delay; out = outputOf (s .voice); envx = a .h .envx; endx = s .endx } in
-    (λ i. record { voice = c .with-play .ensures i; delay = a .h .delay; out = o i; envx = a .h .envx; endx = n .endx }) ∙ ap F (is-noised (c .before .before .before .before))
+    let noised = c .before .before .before .before in
+    let h = noised .before .before .before .before .args .h in
+    let e = landed w16 {z = noised .noised .result .«current_sample»} (sample-small (c .before .before)) in
+    let F : Sounding → Cell = λ (s : Sounding). record { voice = s .voice; delay = h .delay; out = outputOf (s .voice); envx = h .envx; endx = s .endx } in
+    rw (c .with-play .ensures, landed w16 (c .before .scaled-output .ok), c .before .scaled-output .ensures, e) (ap F (is-noised noised))
 
 pub finished-spec : {M : Type 1} → statement M
 finished-spec =
-    tie.close
-    (tie.spec
-    (λ c κs. search needs)
-    (λ c κs. search needs)
-    scaled-output-requires
-    (λ c κs. search needs)
-    returns)
+    tie.close (tie.spec (search needs) (search needs) scaled-output-requires (search needs) returns)

@@ -1,14 +1,10 @@
 -- The callees, with the read-backs removed.
 use borrow.Author.Needs.{needs}
 use native.Mathlib.Nat.{mod-eq-of-lt}
-use mathlib.Core.Path.{_∙_, ap}
 use mir.Syntax.{w8, w16}
-use Rattle.numbers.specs.Choice.{if_then_else_}
 use Rattle.numbers.proofs.Range.{landed}
-use Rattle.dsp.specs.Sheet.{laneBytes}
-use Rattle.dsp.specs.Lane.{ownCell, shownCell, added, putBytes, turned}
+use Rattle.dsp.specs.Lane.{turned}
 use Rattle.dsp.specs.Lane as lanes
-use Rattle.dsp.specs.Inside.{asShared, asSums}
 use Rattle.dsp.proofs.lane.lane.Statement.{statement}
 use Rattle.dsp.proofs.lane.lane.Tie as tie
 
@@ -20,33 +16,29 @@ same-length c = c .before .before .before .before .before .before .before .befor
 
 returns : tie.Need-returns
 unfolding turned
-returns c = let s = c .before .before .before .before .before .before .before .before .before .before .before .before .before .before .before .before .before .before .before .before .before .before .before .before in
+returns c =
+    let slot = c .before .before .before .before .before .before .before .before in
+    let bytes = slot .before .before .before .before .before in
+    let cell = bytes .before .before .before in
+    let s = cell .before .before .before .before .before .before .before .before in
     let a = s .args in
+    let x = cell .cell .result in
     let eon = rw (mod-eq-of-lt (s .pre .4)) at (c .before .before .before .before .bit .ensures) in
-    let x = c .before .before .before .before .before .before .before .before .before .before .before .before .before .before .before .before .cell .result in
-    let o = landed w16 {z = x .out} (c .before .before .before .before .before .before .before .before .before .before .before .before .before .before .struct-told2 .given .1 .1 .0 .1) in
+    let o = landed w16 {z = x .out} (bytes .before .struct-told2 .given .1 .1 .0 .1) in
     let l = landed w8 {z = x .voice .«left_vol»} (c .before .before .struct-told5 .given .0 .1) in
     let r = landed w8 {z = x .voice .«right_vol»} (c .before .struct-told6 .given .1 .0 .1) in
-    let e = landed w16 {z = a .acc .prev} (c .before .before .before .before .before .before .before .before .before .before .before .before .before .before .before .before .before .struct-told .given .0 .1) in
-    (λ i. record {
-      voice = x .voice;
-      delay = x .delay;
-      sums = (c .added .ensures ∙ (λ k. added (eon k) (o k) (l k) (r k) (asSums (a .acc)))) i;
-      bytes = (c .before .before .before .before .before .before .before .before .before .before .before .before .before .put-bytes .ensures ∙ (λ k. putBytes (a .j) (x .envx) (o k) (x .endx) (a .bytes .now))) i;
-      slot = (c .before .before .before .before .before .before .before .before .put-slot .ensures ∙ (λ k. if a .worked then laneBytes (o k) (x .envx) (x .endx) else a .slot .now)) i;
-    })
-    ∙ ap (lanes.landed (a .worked) (asShared (a .c)) (a .j) (asSums (a .acc)) (a .bytes .now) (a .slot .now))
-    (c .before .before .before .before .before .before .before .before .before .before .before .before .before .before .before .before .cell .ensures ∙ (λ k. if a .worked then ownCell (asShared (a .c)) (a .ram .now) (a .j) (e k) (a .v) (a .delay) (a .bytes .now) else shownCell (a .slot .now) (a .v) (a .delay)))
+    let e = landed w16 {z = a .acc .prev} (cell .before .struct-told .given .0 .1) in
+    rw (← e, ← cell .cell .ensures, c .added .ensures, bytes .put-bytes .ensures, slot .put-slot .ensures, eon, o, l, r, e)
 
 pub lane-spec : {M : Type 1} → statement M
 lane-spec =
     tie.close
     (tie.spec
     (λ c κs. search needs)
-    (λ c κs. search needs)
+    (search needs)
     put-slot-requires
     (λ c κs. tt)
-    (λ c κs. search needs)
+    (search needs)
     same-length
-    (λ c. search needs)
+    (search needs)
     returns)

@@ -1,10 +1,8 @@
 -- Four stores fill the lane; the output has 16 bits.
 use borrow.Author.Needs.{needs}
 use mathlib.Core.List.{[], _∷_}
-use mathlib.Core.Path.{_∙_, ap}
-use mir.Syntax.{w16}
-use mir.ValLaws.{toZ-ofZ}
-use Rattle.numbers.specs.Signed.{lowZ, highZ}
+use mathlib.Core.Path.{_∙_}
+use mir.Facts.{toZ-ofZ}
 use Rattle.numbers.proofs.Parts.{filled}
 use Rattle.dsp.specs.Sheet.{laneBytes}
 use Rattle.dsp.proofs.lane.put_slot.Statement.{statement}
@@ -12,23 +10,23 @@ use Rattle.dsp.proofs.lane.put_slot.Tie as tie
 
 returns : tie.Need-returns
 unfolding laneBytes
-returns c = let a = c .before .before .before .before .before .args in
-    let z = toZ-ofZ w16 (a .out) (c .before .before .before .before .before .fits .out) in
+returns c =
+    let s = c .before .before .before .before .before in
     rw (c .before .before .before .if1 .taken)
-    (filled (c .before .before .low .result ∷ c .before .high .result ∷ a .envx ∷ c .flag .result ∷ []) (a .slot .now) (c .before .before .before .before .before .pre)
-    ∙ (λ i. (c .before .before .low .ensures ∙ ap lowZ z) i ∷ (c .before .high .ensures ∙ ap highZ z) i ∷ a .envx ∷ c .flag .ensures i ∷ []))
+    (filled (c .before .before .low .result ∷ c .before .high .result ∷ s .args .envx ∷ c .flag .result ∷ []) (s .args .slot .now) (s .pre)
+    ∙ rw (c .before .before .low .ensures, c .before .high .ensures, c .flag .ensures, toZ-ofZ (s .fits .out)))
 
 pub put-slot-spec : {M : Type 1} → statement M
 put-slot-spec =
     tie.close
     (tie.spec
-    (λ c κs. search needs)
-    (λ c. search needs)
-    (λ c κs. search needs)
-    (λ c. search needs)
-    (λ c. search needs)
-    (λ c κs. search needs)
+    (search needs)
+    (search needs)
+    (search needs)
     (λ c. search needs)
     (λ c. search needs)
+    (search needs)
+    (λ c. search needs)
+    (search needs)
     returns
     (λ c. search needs))

@@ -14,4 +14,4 @@ unfolding sourceOf
 returns-2 c = rw (← (rw (mod-eq-of-lt (c .before .before .pre)) at (c .before .bit .ensures)), c .if1 .left) (search needs)
 
 pub source-of-spec : {M : Type 1} → statement M
-source-of-spec = tie.close (tie.spec (λ c κs. search needs) returns returns-2)
+source-of-spec = tie.close (tie.spec (search needs) returns returns-2)

@@ -18,9 +18,9 @@ pub scaled-output-spec : {M : Type 1} → statement M
 scaled-output-spec =
     tie.close
     (tie.spec
-    (λ c κs. search needs)
+    (search needs)
     (λ c. fits (search quotes depth 20) tt)
-    (λ c. search needs)
+    (search needs)
     (λ c. fits (search (q-level, quotes) depth 20) tt)
     (λ c. fits (search (q-level, quotes) depth 20) tt)
     returns

@@ -1,14 +1,10 @@
 -- The formula over ℤ; the pitch is never negative.
 use borrow.Author.Needs.{needs}
-use mathlib.Core.Path.{ap, sym, _∙_}
 use Prim.Native.Nat.{_<_}
 use native.Mathlib.Omega.{arith}
 use lib.Signed.{mag}
-use lib.IntN.{ℤ, pos, natAbs}
 use Rattle.numbers.proofs.Range.{fits, quotes, q-unsigned, q-elem16}
 use Rattle.dsp.specs.Voice.{pitchOf}
-use Rattle.dsp.specs.Inside.{asSource}
-use Rattle.dsp.specs.declared.play.Source.{Source}
 use Rattle.dsp.proofs.Pitch.{machine, machine-is, machine-nat, cast-nat, nat-le}
 use Rattle.dsp.proofs.play.pitch_of.Statement.{statement}
 use Rattle.dsp.proofs.play.pitch_of.Tie as tie
@@ -31,25 +27,22 @@ returns c =
     let x = c .before .source .given .0 .0 in
     let f = s .fits .base .fits in
     let k = machine-nat (s .args .base) x (s .fits .base) (small c) in
-    let l = nat-le k in
-    (ap (λ (z : ℤ). pos (natAbs z)) (k .is) ∙ sym (k .is) ∙ machine-is (s .args .base) x (s .fits .base) (small c) ∙ ap (λ (o : Source). pitchOf (s .args .base) (asSource o)) (sym (c .before .source .given .1)), omega (arith, l))
+    (rw (c .before .source .given .1, ← machine-is (s .args .base) x (s .fits .base) (small c), k .is), omega (arith, nat-le k))
 
 returns-2 : tie.Need-returns-2
 unfolding pitchOf
-returns-2 c =
-    let f = c .before .before .fits .base .fits in
-    (ap (λ (o : Source). pitchOf (c .before .before .args .base) (asSource o)) (sym (c .enum-told .given .1)), omega arith)
+returns-2 c = let f = c .before .before .fits .base .fits in (rw (c .enum-told .given .1), omega arith)
 
 pub pitch-of-spec : {M : Type 1} → statement M
 pitch-of-spec =
     tie.close
     (tie.spec
-    (λ c. search needs)
-    (λ c. search needs)
+    (search needs)
+    (search needs)
     (λ c. fits (search (quotes, q-unsigned, q-elem16) depth 20) tt)
     (λ c. fits (search (quotes, q-unsigned, q-elem16) depth 20) tt)
     (λ c. fits (search (quotes, q-unsigned, q-elem16) depth 20) tt)
     cast-result-2
-    (λ c. search needs)
+    (search needs)
     returns
     returns-2)

@@ -4,7 +4,7 @@ use mathlib.Core.Path.{_≡_}
 use Prim.Native.Nat.{_-_, _≤_}
 use native.Mathlib.Numerals.{add-one}
 use native.Mathlib.Omega.{arith}
-use lib.ListN.{length, set, length-set}
+use lib.ListN.{length, length-set}
 use Rattle.replay.specs.Block.{laid}
 use Rattle.replay.proofs.block.lay.Statement.{statement}
 use Rattle.replay.proofs.block.lay.Tie as tie
@@ -21,13 +21,7 @@ loop-holds c = search needs
 
 loop-again : tie.Need-loop-again Inv-loop μ-loop
 unfolding laid
-loop-again c =
-    let l = c .before .before .before .loop .inv in
-    (search needs, rw length-set (l .1), rw add-one (λ i. set (l .2 i) (c .before .wrapping-add16 .ensures i) (c .byte-at .ensures i)))
-
-returns : tie.Need-returns Inv-loop μ-loop
-returns c =
-    let e : length (c .before .before .before .before .args .part .now) ≡ c .before .loop .k = omega arith in rw e (c .before .loop .inv .2)
+loop-again c = (search needs, rw length-set (omega arith), rw add-one (cc))
 
 pub lay-spec : {M : Type 1} → statement M
 lay-spec =
@@ -45,4 +39,4 @@ lay-spec =
     (λ c. search needs)
     loop-again
     (λ c. search needs)
-    returns)
+    (λ c. let e : length (c .before .before .before .before .args .part .now) ≡ c .before .loop .k = omega arith in cc))

@@ -1,15 +1,13 @@
 -- After k turns the first k samples are compared.
 use borrow.Author.Needs.{needs}
-use mathlib.Core.Bool.{_&&_}
-use mathlib.Core.Path.{_≡_, ap, _∙_}
-use Prim.Native.Nat.{_+_, _-_, _*_, _≤_}
+use mathlib.Core.Path.{_≡_}
+use Prim.Native.Nat.{_-_, _≤_}
 use native.Mathlib.Numerals.{add-one}
 use native.Mathlib.Omega.{arith}
-use lib.IntN.{ℤ, pos}
+use lib.IntN.{pos}
 use lib.ListN.{getD}
 use mir.Syntax.{w16}
 use Rattle.numbers.proofs.Range.{landed}
-use Rattle.replay.specs.Records.{i16At, _=ℤ?_}
 use Rattle.replay.specs.Block.{samplesEqual}
 use Rattle.replay.proofs.block.samples_equal.Statement.{statement}
 use Rattle.replay.proofs.block.samples_equal.Tie as tie
@@ -27,14 +25,9 @@ loop-holds c = search needs
 loop-again : tie.Need-loop-again Inv-loop μ-loop
 unfolding samplesEqual
 loop-again c =
-    let k = c .before .before .before .loop .k in
-    let x = getD (c .before .before .before .before .before .args .samples .now) k (pos 0) in
-    let y = i16At (c .before .before .before .before .before .args .bytes .now) (15 + k * 2) in
-    let e = c .is-i16-at .ensures ∙ ap (λ (z : ℤ). z =ℤ? y) (landed w16 {z = x} (c .before .is-i16-at-arg .given)) in
-    (search needs, rw add-one (λ i. c .before .before .before .loop .inv .1 i && e i))
-
-returns : tie.Need-returns Inv-loop μ-loop
-returns c = let e : 16 ≡ c .before .loop .k = omega arith in rw e (c .before .loop .inv .1)
+    let s = c .before .before .before in
+    let x = getD (s .before .before .args .samples .now) (s .loop .k) (pos 0) in
+    (search needs, rw add-one (cc (landed w16 {z = x} (c .before .is-i16-at-arg .given))))
 
 pub samples-equal-spec : {M : Type 1} → statement M
 samples-equal-spec =
@@ -51,4 +44,4 @@ samples-equal-spec =
     (λ c. search needs)
     (λ c. search needs)
     loop-again
-    returns)
+    (λ c. let e : 16 ≡ c .before .loop .k = omega arith in cc))

@@ -15,15 +15,13 @@ use Rattle.replay.proofs.envelope.equal.Tie as tie
 returns : tie.Need-returns
 unfolding envelopeEqual
 returns c =
-    let r = c .before .before .before .before .before .before .before .before .before .before .before .before .before .before .args .bytes .now in
-    let tick = c .before .before .before .before .before .before .before .tick in
-    let ram = c .before .before .before .before .before .before .before .before .before .before .before .before .empty-ram .ensures in
-    let b = c .before .before .before .before .before .before .before .before .before .before .before .playback .ensures in
-    let e = c .before .before .before .before .before .before .before .before .before .before .adsr-of .ensures in
-    let v = c .before .before .before .before .before .before .before .before .before .keyed-on .ensures ∙ (λ i. playing (e i) (b i) 0 (replicate 4 (pos 0))) in
-    let a = tick .ensures ∙ (λ i. answered (v i) (ram i)) in
+    let t = c .before .before .before .before .before .before .before in
+    let q = t .before .before .before in
+    let r = q .before .before .before .before .args .bytes .now in
+    let v = t .before .before .keyed-on .ensures ∙ (λ i. playing (q .adsr-of .ensures i) (q .before .playback .ensures i) 0 (replicate 4 (pos 0))) in
+    let a = t .tick .ensures ∙ (λ i. answered (v i) (q .before .before .empty-ram .ensures i)) in
     let s = c .says .ensures ∙ ap (λ (x : Voice). envelopeSays (x .adsr) r) (c .before .before .before .before .sound .ensures) in
-    (λ i. (tick .result .refusal =? 0) && c .before .typed .ensures i && s i) ∙ ap (λ (x : Answer). answerSays x r) a
+    (λ i. (t .tick .result .refusal =? 0) && c .before .typed .ensures i && s i) ∙ ap (λ (x : Answer). answerSays x r) a
 
 pub equal-spec : {M : Type 1} → statement M
 equal-spec =

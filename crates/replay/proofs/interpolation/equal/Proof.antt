@@ -19,22 +19,19 @@ use Rattle.replay.proofs.interpolation.equal.Tie as tie
 returns : tie.Need-returns
 unfolding interpolationEqual
 returns c =
-    let q = c .before .before .before .before .before .before .before .before .before .before .before .before .before in
+    let t = c .before .before .before .before .before .before in
+    let k = t .before .before .before in
+    let q = k .before .before .before .before in
     let r = q .before .before .before .before .before .args .bytes .now in
     let h₀ = landed w16 (q .before .before .before .i16-at .ok) ∙ q .before .before .before .i16-at .ensures in
     let h₁ = landed w16 (q .before .before .i16-at2 .ok) ∙ q .before .before .i16-at2 .ensures in
     let h₂ = landed w16 (q .before .i16-at3 .ok) ∙ q .before .i16-at3 .ensures in
     let h₃ = landed w16 (q .i16-at4 .ok) ∙ q .i16-at4 .ensures in
-    let tick = c .before .before .before .before .before .before .tick in
-    let ram = c .before .before .before .before .before .before .before .before .before .before .before .before .empty-ram .ensures in
-    let b = c .before .before .before .before .before .before .before .before .before .before .before .playback .ensures in
-    let e = c .before .before .before .before .before .before .before .before .before .before .steady .ensures in
-    let p = c .before .before .before .before .before .before .before .before .before .u16-at .ensures in
-    let v = c .before .before .before .before .before .before .before .before .keyed-on .ensures ∙ (λ i. playing (e i) (b i) (p i) (h₀ i ∷ h₁ i ∷ h₂ i ∷ h₃ i ∷ [])) in
-    let a = tick .ensures ∙ (λ i. answered (v i) (ram i)) in
+    let v = t .before .before .keyed-on .ensures ∙ (λ i. playing (k .before .steady .ensures i) (k .before .before .playback .ensures i) (k .u16-at .ensures i) (h₀ i ∷ h₁ i ∷ h₂ i ∷ h₃ i ∷ [])) in
+    let a = t .tick .ensures ∙ (λ i. answered (v i) (k .before .before .before .empty-ram .ensures i)) in
     let x = c .before .before .before .sound in
     let s = c .is-i16-at .ensures ∙ ap (λ (z : ℤ). z =ℤ? i16At r 10) (landed w16 {z = x .result .«current_sample»} (c .before .struct-told .given .1 .1 .1 .1 .1 .1 .0 .1) ∙ ap (λ (w : Voice). w .«current_sample») (x .ensures)) in
-    (λ i. (tick .result .refusal =? 0) && s i) ∙ ap (λ (w : Answer). sampleSays w r) a
+    (λ i. (t .tick .result .refusal =? 0) && s i) ∙ ap (λ (w : Answer). sampleSays w r) a
 
 pub equal-spec : {M : Type 1} → statement M
 equal-spec =

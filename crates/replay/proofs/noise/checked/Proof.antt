@@ -18,15 +18,14 @@ use Rattle.replay.proofs.noise.checked.Tie as tie
 returns : tie.Need-returns
 unfolding noiseCheck noisyAnswer
 returns c =
-    let q = c .before .before .before .before .before .before .before .before .before in
-    let r = q .before .before .before .args .bytes .now in
-    let n = q .before .before .before .args .carry in
-    let step = c .before .before .before .before .before .before .step in
-    let ram = c .before .before .before .before .before .before .before .before .empty-ram .ensures in
-    let a = ap asAnswer (step .ensures) ∙ (λ i. asAnswer (stepOf (withNoise (q .byte-at .ensures i) (record { lfsr = n .lfsr; counter = n .counter }) (q .before .new .ensures i)) (ram i))) in
+    let t = c .before .before .before .before .before .before in
+    let q = t .before .before .before in
+    let s = q .before .before .before .args in
+    let r = s .bytes .now in
+    let a = ap asAnswer (t .step .ensures) ∙ (λ i. asAnswer (stepOf (withNoise (q .byte-at .ensures i) (record { lfsr = s .carry .lfsr; counter = s .carry .counter }) (q .before .new .ensures i)) (t .before .before .empty-ram .ensures i))) in
     let x = c .before .before .before .sound in
-    let s = c .is-i16-at .ensures ∙ ap (λ (z : ℤ). z =ℤ? i16At r 1) (landed w16 {z = x .result .«current_sample»} (c .before .struct-told .given .1 .1 .1 .1 .1 .1 .0 .1) ∙ ap (λ (w : Voice). w .«current_sample») (x .ensures)) in
-    (λ i. record { equal = (step .result .refusal =? 0) && s i; carry = carryOf (step .result .dsp) }) ∙ ap (λ (w : Answer). noiseSays w r) a
+    let e = c .is-i16-at .ensures ∙ ap (λ (z : ℤ). z =ℤ? i16At r 1) (landed w16 {z = x .result .«current_sample»} (c .before .struct-told .given .1 .1 .1 .1 .1 .1 .0 .1) ∙ ap (λ (w : Voice). w .«current_sample») (x .ensures)) in
+    (λ i. record { equal = (t .step .result .refusal =? 0) && e i; carry = carryOf (t .step .result .dsp) }) ∙ ap (λ (w : Answer). noiseSays w r) a
 
 pub checked-spec : {M : Type 1} → statement M
 checked-spec =

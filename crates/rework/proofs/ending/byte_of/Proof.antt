@@ -10,7 +10,7 @@ use Rattle.rework.proofs.ending.byte_of.Statement.{statement}
 use Rattle.rework.proofs.ending.byte_of.Tie as tie
 
 returns : tie.Need-returns
-returns c = let l : c .before .args .set < 256 = search needs in rw (eq-eqb _ _ (c .if1 .taken), mod-eq-of-lt l)
+returns c = rw (eq-eqb _ _ (c .before .if1 .taken)) (c .pick-endx .ensures)
 
 -- a register's voice is one of eight
 is-bit : (c : tie.After-bit) → c .bit .result ≡ bit (c .before .before .args .set) (c .before .before .args .i / 16)
@@ -23,4 +23,4 @@ returns-3 : tie.Need-returns-3
 returns-3 c = rw (ne-eqb _ _ (c .before .before .if1 .left), ← is-bit (c .before), c .if2 .left)
 
 pub byte-of-spec : {M : Type 1} → statement M
-byte-of-spec = tie.close (tie.spec (λ c. search needs) (λ c κs. search needs) returns returns-2 returns-3)
+byte-of-spec = tie.close (tie.spec (λ c κs. search needs) (λ c κs. search needs) returns returns-2 returns-3)

@@ -23,24 +23,27 @@ Inv-loop named log w₀ at₀ w at = (quiet (recordsFrom log 0) (modesIn w₀) �
 abbrev μ-loop : tie.MeasureT-loop
 μ-loop named log w₀ at₀ w at = length log - at
 
-loop-holds : tie.Need-loop-holds Inv-loop μ-loop
-loop-holds c = (refl, refl)
-
 returns : tie.Need-returns Inv-loop μ-loop
 unfolding decode
-returns c = let l = c .before .before .before .loop in
-    let g = c .before .before .before .before .before .args .log .now in
-    (sym (l .inv .0 ∙ quiet-end g (l .at) (c .before .before .read .ensures .0) (modesIn (l .w)) (l .w .quiet) (c .enum-told .given .1)), sym (l .inv .1 ∙ members-end g (l .at) (c .before .before .read .ensures .0) (modesIn (l .w)) (l .w .set) (c .enum-told .given .1)))
+returns c =
+    let l = c .before .before .before .loop in
+    let is = c .before .before .read .ensures .0 in
+    let off = c .enum-told .given .1 in
+    (sym (l .inv .0 ∙ quiet-end _ _ is (modesIn (l .w)) (l .w .quiet) off), sym (l .inv .1 ∙ members-end _ _ is (modesIn (l .w)) (l .w .set) off))
 
 loop-less : tie.Need-loop-less Inv-loop μ-loop
-loop-less c = let m = moved (c .before .before .found .given .1) (c .before .before .before .before .read .ensures .1) in omega (arith, m .0, m .1)
+loop-less c =
+    let m = moved (c .before .before .found .given .1) (c .before .before .before .before .read .ensures .1) in
+    omega (arith, m .0, m .1)
 
 loop-again : tie.Need-loop-again Inv-loop μ-loop
-loop-again c = let l = c .before .before .before .before .before .loop in
-    let g = c .before .before .before .before .before .before .before .args .log .now in
+loop-again c =
+    let read = c .before .before .before .before in
+    let l = read .before .loop in
+    let is = read .read .ensures .0 in
+    let on = c .before .before .found .given .1 in
     let e = c .past .ensures in
-    let at = c .before .before .found .given .0 .1 .0 in
-    (l .inv .0 ∙ quiet-on g (l .at) (c .before .before .before .before .read .ensures .0) (modesIn (l .w)) (l .w .quiet) (c .before .before .found .given .1) ∙ (λ i. sym (e .1) i && quiet (recordsFrom g at) (sym (e .0) i)), l .inv .1 ∙ members-on g (l .at) (c .before .before .before .before .read .ensures .0) (modesIn (l .w)) (l .w .set) (c .before .before .found .given .1) ∙ (λ i. members (recordsFrom g at) (sym (e .0) i) (sym (e .2) i)))
+    (rw (e .0, e .1) (l .inv .0 ∙ quiet-on _ _ is (modesIn (l .w)) (l .w .quiet) on), rw (e .0, e .2) (l .inv .1 ∙ members-on _ _ is (modesIn (l .w)) (l .w .set) on))
 
 pub walk-spec : {M : Type 1} → statement M
 walk-spec =
@@ -48,11 +51,11 @@ walk-spec =
     (tie.spec
     Inv-loop
     μ-loop
-    loop-holds
+    (λ c. (refl, refl))
     (λ c κs. search needs)
     (λ c. search needs)
     (λ c. search needs)
     returns
     (λ c κs. search needs)
-    loop-less
+    (λ c. let m = moved (c .before .before .found .given .1) (c .before .before .before .before .read .ensures .1) in omega (arith, m .0, m .1))
     loop-again)

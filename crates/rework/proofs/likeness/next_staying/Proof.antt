@@ -17,25 +17,31 @@ Inv-loop set log from at₀ at = (without set (recordsFrom log from) ≡ without
 abbrev μ-loop : tie.MeasureT-loop
 μ-loop set log from at₀ at = length log - at
 
-loop-holds : tie.Need-loop-holds Inv-loop μ-loop
-loop-holds c = (refl, search needs)
-
 returns : tie.Need-returns Inv-loop μ-loop
-returns c = c .before .before .before .loop .inv .0 ∙ closed (c .before .before .before .before .before .args .set) (c .before .before .before .before .before .args .log .now) (c .before .before .before .loop .at) (c .before .before .read .ensures .0) (c .enum-told .given .1)
-
-is-staying-requires : tie.Need-is-staying-requires Inv-loop μ-loop
-is-staying-requires c κs = known _ _ (c .before .found .given .1) (c .before .before .before .read .ensures .1)
+returns c =
+    let l = c .before .before .before .loop in
+    l .inv .0 ∙ closed _ _ (l .at) (c .before .before .read .ensures .0) (c .enum-told .given .1)
 
 returns-2 : tie.Need-returns-2 Inv-loop μ-loop
-returns-2 c = let m = moved (c .before .before .before .found .given .1) (c .before .before .before .before .before .read .ensures .1) in
-    (c .before .before .before .before .before .before .loop .inv .0 ∙ opened (c .before .before .before .before .before .before .before .before .args .set) (c .before .before .before .before .before .before .before .before .args .log .now) (c .before .before .before .before .before .before .loop .at) (c .before .before .before .before .before .read .ensures .0) (c .before .before .before .found .given .1) (c .before .is-staying .ensures) (c .if1 .taken), omega (arith, c .before .before .before .before .before .before .loop .inv .1, m .0), m .1)
+returns-2 c =
+    let on = c .before .before .before in
+    let read = on .before .before in
+    let l = read .before .loop in
+    let m = moved (on .found .given .1) (read .read .ensures .1) in
+    (l .inv .0 ∙ opened _ _ (l .at) (read .read .ensures .0) (on .found .given .1) (c .before .is-staying .ensures) (c .if1 .taken), omega (arith, l .inv .1, m .0), m .1)
 
 loop-less : tie.Need-loop-less Inv-loop μ-loop
-loop-less c = let m = moved (c .before .before .before .found .given .1) (c .before .before .before .before .before .read .ensures .1) in omega (arith, m .0, m .1)
+loop-less c =
+    let m = moved (c .before .before .before .found .given .1) (c .before .before .before .before .before .read .ensures .1) in
+    omega (arith, m .0, m .1)
 
 loop-again : tie.Need-loop-again Inv-loop μ-loop
-loop-again c = let m = moved (c .before .before .before .found .given .1) (c .before .before .before .before .before .read .ensures .1) in
-    (c .before .before .before .before .before .before .loop .inv .0 ∙ opened (c .before .before .before .before .before .before .before .before .args .set) (c .before .before .before .before .before .before .before .before .args .log .now) (c .before .before .before .before .before .before .loop .at) (c .before .before .before .before .before .read .ensures .0) (c .before .before .before .found .given .1) (c .before .is-staying .ensures) (c .if1 .left), omega (arith, c .before .before .before .before .before .before .loop .inv .1, m .0))
+loop-again c =
+    let on = c .before .before .before in
+    let read = on .before .before in
+    let l = read .before .loop in
+    let m = moved (on .found .given .1) (read .read .ensures .1) in
+    (l .inv .0 ∙ opened _ _ (l .at) (read .read .ensures .0) (on .found .given .1) (c .before .is-staying .ensures) (c .if1 .left), omega (arith, l .inv .1, m .0))
 
 pub next-staying-spec : {M : Type 1} → statement M
 next-staying-spec =
@@ -43,12 +49,12 @@ next-staying-spec =
     (tie.spec
     Inv-loop
     μ-loop
-    loop-holds
+    (λ c. (refl, search needs))
     (λ c κs. search needs)
     (λ c. search needs)
     (λ c. search needs)
     returns
-    is-staying-requires
+    (λ c κs. known _ _ (c .before .found .given .1) (c .before .before .before .read .ensures .1))
     returns-2
     loop-less
     loop-again)

@@ -13,16 +13,23 @@ returns c = let a = c .before .before .before .before .before .before .before .b
     rw (← c .before .before .before .checked .ensures .0, ne-eqb _ _ (c .before .if1 .taken)) (λ i. leaving (e .0 i) (e .1 i) (e .2 i) (e .3 i) (a .pcm .now) (a .sheet .now) (a .readings .now))
 
 returns-2 : tie.Need-returns-2
-returns-2 c = let a = c .before .before .before .before .before .before .before .before .before .before .before .before .before .before .before .before .before .before .before .before .before .before .before .before .before .before .before .before .args in
-    let x = c .before .before .before .before .before .before .before .before .before .before .run-with .ensures in
-    let d = done (a .named) (a .start) (a .old-end) (a .ram .now) (a .old-log .now) (a .new-log .now) (a .pcm .now) (a .sheet .now) (a .readings .now) (c .before .before .before .before .before .before .before .before .before .before .before .before .before .before .before .before .before .before .blank-ram .result) {o = x 0} (c .before .before .before .before .before .before .before .before .before .before .before .before .before .before .before .before .before .before .before .before .before .checked .ensures .0) (c .before .before .before .before .before .before .before .before .before .before .before .before .before .before .before .before .before .before .before .if1 .left) (c .before .before .before .before .before .before .before .before .before .before .before .before .before .before .before .before .before .before .before .before .before .checked .ensures .1) (c .before .before .before .before .before .before .before .before .before .before .before .before .before .before .before .before .before .before .blank-ram .ensures) (c .before .before .before .before .before .before .before .before .before .before .before .before .before .before .before .before .copy .ensures) x in
-    refused-run (a .named) (a .start) (a .old-end) (a .ram .now) (a .old-log .now) (a .new-log .now) {o = x 0} d (c .refused2 .ensures .0) (c .refused2 .ensures .1) (c .refused2 .ensures .2) (c .refused2 .ensures .3) (c .before .if2 .taken)
+returns-2 c =
+    let ran = c .before .before .before .before .before .before .before .before .before .before in
+    let o = ran .run-with .ensures in
+    let copied = ran .before .before .before .before .before .before in
+    let check = copied .before .before .before .before .before in
+    let d = done _ _ _ _ _ _ _ _ _ (copied .before .before .blank-ram .result) {o = o 0} (check .checked .ensures .0) (copied .before .before .before .if1 .left) (check .checked .ensures .1) (copied .before .before .blank-ram .ensures) (copied .copy .ensures) o in
+    let e = c .refused2 .ensures in
+    refused-run _ _ _ _ _ _ {o = o 0} d (e .0) (e .1) (e .2) (e .3) (c .before .if2 .taken)
 
 returns-3 : tie.Need-returns-3
-returns-3 c = let a = c .before .before .before .before .before .before .before .before .before .before .before .before .before .before .before .before .before .before .before .before .before .before .before .before .before .before .before .before .before .args in
-    let x = c .before .before .before .before .before .before .before .before .before .before .before .run-with .ensures in
-    let d = done (a .named) (a .start) (a .old-end) (a .ram .now) (a .old-log .now) (a .new-log .now) (a .pcm .now) (a .sheet .now) (a .readings .now) (c .before .before .before .before .before .before .before .before .before .before .before .before .before .before .before .before .before .before .before .blank-ram .result) {o = x 0} (c .before .before .before .before .before .before .before .before .before .before .before .before .before .before .before .before .before .before .before .before .before .before .checked .ensures .0) (c .before .before .before .before .before .before .before .before .before .before .before .before .before .before .before .before .before .before .before .before .if1 .left) (c .before .before .before .before .before .before .before .before .before .before .before .before .before .before .before .before .before .before .before .before .before .before .checked .ensures .1) (c .before .before .before .before .before .before .before .before .before .before .before .before .before .before .before .before .before .before .before .blank-ram .ensures) (c .before .before .before .before .before .before .before .before .before .before .before .before .before .before .before .before .before .copy .ensures) x in
-    whole-run (a .named) (a .start) (a .old-end) (a .ram .now) (a .old-log .now) (a .new-log .now) {o = x 0} d (c .before .before .if2 .left) (c .before .end-of .ensures) (c .count .ensures)
+returns-3 c =
+    let ran = c .before .before .before .before .before .before .before .before .before .before .before in
+    let o = ran .run-with .ensures in
+    let copied = ran .before .before .before .before .before .before in
+    let check = copied .before .before .before .before .before in
+    let d = done _ _ _ _ _ _ _ _ _ (copied .before .before .blank-ram .result) {o = o 0} (check .checked .ensures .0) (copied .before .before .before .if1 .left) (check .checked .ensures .1) (copied .before .before .blank-ram .ensures) (copied .copy .ensures) o in
+    whole-run _ _ _ _ _ _ {o = o 0} d (c .before .before .if2 .left) (c .before .end-of .ensures) (c .count .ensures)
 
 pub rework-spec : {M : Type 1} → statement M
 rework-spec =

@@ -4,11 +4,11 @@ use mathlib.Core.Bool.{true}
 use mathlib.Core.Path.{_≡_, sym, _∙_}
 use native.Mathlib.Omega.{arith}
 use lib.ListN.{length}
-use borrow.Author.Tests.{not-true, not-false}
+use borrow.Author.Tests.{eq-eqb, ne-eqb, lt-ltb, le-ltb, not-true, not-false}
 use Rattle.dsp.specs.Fit.{fit}
 use Rattle.dsp.proofs.Fits.{fit-facts}
-use Rattle.sitting.specs.Parts.{logRefusal}
-use Rattle.sitting.proofs.Parting.{ram-refused, unfit-refused, log-refused, record-told, no-room, sounds}
+use Rattle.sitting.specs.Parts.{logRefusal, partOf}
+use Rattle.sitting.proofs.Parting.{ram-refused, unfit-refused, refused-goes, sound-goes}
 use Rattle.sitting.proofs.parts.run_part.Statement.{statement}
 use Rattle.sitting.proofs.parts.run_part.Tie as tie
 
@@ -27,29 +27,46 @@ returns : tie.Need-returns
 returns c = ram-refused _ _ _ _ _ _ _ (c .before .if1 .taken) (c .refused .ensures)
 
 returns-2 : tie.Need-returns-2
-returns-2 c = unfit-refused _ _ _ _ _ _ _ (ram-there (c .before .before .before)) (sym (c .before .before .is-fit .ensures) ∙ not-true _ (c .before .if2 .taken)) (c .refused2 .ensures)
+returns-2 c =
+    unfit-refused _ _ _ _ _ _ _ (ram-there (c .before .before .before)) (sym (c .before .before .is-fit .ensures) ∙ not-true _ (c .before .if2 .taken)) (c .refused2 .ensures)
 
 returns-3 : tie.Need-returns-3
-returns-3 c = log-refused _ _ _ _ _ _ (ram-there (c .before .before .before .before .before)) (fit-there (c .before .before .before)) _ _ (c .before .before .log-refusal .ensures) (c .before .if3 .taken) (c .refused3 .ensures)
+unfolding partOf
+returns-3 c =
+    (rw (eq-eqb _ _ (ram-there (c .before .before .before .before .before)), fit-there (c .before .before .before), ← c .before .before .log-refusal .ensures, ne-eqb _ _ (c .before .if3 .taken)) (cc), refused-goes _ _ _ (c .refused3 .ensures) (c .before .if3 .taken))
 
 at-record-requires : tie.Need-at-record-requires
 at-record-requires c κs = (c .if4 .taken, fit-facts _ (fit-there (c .before .before .before .before)))
 
 returns-4 : tie.Need-returns-4
-returns-4 c = let r = c .at-record .ensures in record-told _ _ _ _ _ _ (ram-there (c .before .before .before .before .before .before .before)) (fit-there (c .before .before .before .before .before)) (log-taken (c .before .before .before)) _ (c .before .if4 .taken) (r .0) (r .1)
+unfolding partOf
+returns-4 c =
+    let q = c .before .before .before in
+    let z = c .before .if4 .taken in
+    (rw (eq-eqb _ _ (ram-there (q .before .before .before .before)), fit-there (q .before .before), eq-eqb _ _ (log-taken q), eq-eqb _ _ z) (cc), rw z (c .at-record .ensures .1))
 
 returns-5 : tie.Need-returns-5
-returns-5 c = no-room _ _ _ _ _ _ (ram-there (c .before .before .before .before .before .before .before .before)) (fit-there (c .before .before .before .before .before .before)) (log-taken (c .before .before .before .before)) _ (c .before .before .if4 .left) (c .before .if5 .taken) (c .refused4 .ensures)
+unfolding partOf
+returns-5 c =
+    let q = c .before .before .before .before in
+    (rw (eq-eqb _ _ (ram-there (q .before .before .before .before)), fit-there (q .before .before), eq-eqb _ _ (log-taken q), ne-eqb _ _ (c .before .before .if4 .left), lt-ltb _ _ (c .before .if5 .taken)) (cc), refused-goes _ _ _ (c .refused4 .ensures) (λ z. absurd (omega arith)))
 
 ticks-now-requires : tie.Need-ticks-now-requires
 ticks-now-requires c κs = (let l = c .before .if4 .left in omega (arith, l), let l = c .if5 .left in omega (arith, l))
 
 sounded-requires : tie.Need-sounded-requires
-sounded-requires c κs = let t = c .before .before .ticks-now .ensures in (ram-there (c .before .before .before .before .before .before .before .before .before .before), fit-facts _ (fit-there (c .before .before .before .before .before .before .before .before)), t .2, t .3, t .4)
+sounded-requires c κs =
+    let q = c .before .before .before .before .before .before in
+    let t = c .before .before .ticks-now .ensures in
+    (ram-there (q .before .before .before .before), fit-facts _ (fit-there (q .before .before)), t .2, t .3, t .4)
 
 returns-6 : tie.Need-returns-6
-returns-6 c = let t = c .before .before .before .before .before .before .before .ticks-now .ensures in
-    sounds _ _ _ _ _ _ (ram-there (c .before .before .before .before .before .before .before .before .before .before .before .before .before .before .before)) (fit-there (c .before .before .before .before .before .before .before .before .before .before .before .before .before)) (log-taken (c .before .before .before .before .before .before .before .before .before .before .before)) _ _ (c .before .before .before .before .before .before .before .before .before .if4 .left) (c .before .before .before .before .before .before .before .before .if5 .left) (t .0) (t .1) (t .2) (c .before .before .before .before .sounded .ensures)
+unfolding partOf
+returns-6 c =
+    let q = c .before .before .before .before .before .before .before .before .before .before .before in
+    let t = c .before .before .before .before .before .before .before .ticks-now .ensures in
+    let e = c .before .before .before .before .sounded .ensures in
+    (rw (eq-eqb _ _ (ram-there (q .before .before .before .before)), fit-there (q .before .before), eq-eqb _ _ (log-taken q), ne-eqb _ _ (c .before .before .before .before .before .before .before .before .before .if4 .left), le-ltb _ _ (c .before .before .before .before .before .before .before .before .if5 .left), ← t .0) e, sound-goes _ _ _ _ _ _ _ e (t .1) (t .2))
 
 pub run-part-spec : {M : Type 1} → statement M
 run-part-spec =

@@ -4,7 +4,7 @@ use Rattle.sitting.proofs.running.run.Statement.{statement}
 use Rattle.sitting.proofs.running.run.Tie as tie
 
 returns : tie.Need-returns
-returns c = rw (← c .before .before .before .before .before .before .before .before .before .before .before .before .before .everything .ensures) (c .before .before .before .before .before .before .before .before .run-with .ensures)
+returns c = cc
 
 pub run-spec : {M : Type 1} → statement M
 run-spec =

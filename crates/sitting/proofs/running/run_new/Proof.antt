@@ -4,7 +4,7 @@ use Rattle.sitting.proofs.running.run_new.Statement.{statement}
 use Rattle.sitting.proofs.running.run_new.Tie as tie
 
 returns : tie.Need-returns
-returns c = rw (← c .before .before .before .before .before .before .before .before .before .before .before .before .before .new .ensures) (c .before .before .before .before .before .before .before .before .run .ensures)
+returns c = cc
 
 pub run-new-spec : {M : Type 1} → statement M
 run-new-spec =

@@ -5,18 +5,6 @@ use Rattle.sound.specs.Envelope.{gained}
 use Rattle.sound.proofs.adsr.gained.Statement.{statement}
 use Rattle.sound.proofs.adsr.gained.Tie as tie
 
-returns : tie.Need-returns
-unfolding gained
-returns c = rw (c .before .match .keys1) (c .saturating-sub .ensures)
-
-returns-2 : tie.Need-returns-2
-unfolding gained
-returns-2 c = rw (c .before .match .keys2) (c .lowered .ensures)
-
-returns-3 : tie.Need-returns-3
-unfolding gained
-returns-3 c = rw (c .before .match .keys3) (c .raised .ensures)
-
 returns-4 : tie.Need-returns-4
 unfolding gained
 returns-4 c =
@@ -30,6 +18,7 @@ returns-5 c =
     rw (ne-eqb _ _ (r .0 .0 .1), ne-eqb _ _ (r .0 .1), ne-eqb _ _ (r .1), le-ltb _ _ (c .before .if1 .left)) (c .raised3 .ensures)
 
 pub gained-spec : {M : Type 1} → statement M
+unfolding gained
 gained-spec =
     tie.close
     (tie.spec
@@ -38,8 +27,8 @@ gained-spec =
     (λ c κs. search needs)
     (λ c κs. search needs)
     (λ c κs. search needs)
-    returns
-    returns-2
-    returns-3
+    (λ c. rw (c .before .match .keys1) (c .saturating-sub .ensures))
+    (λ c. rw (c .before .match .keys2) (c .lowered .ensures))
+    (λ c. rw (c .before .match .keys3) (c .raised .ensures))
     returns-4
     returns-5)

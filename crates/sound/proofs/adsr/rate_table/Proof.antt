@@ -4,9 +4,6 @@ use Rattle.sound.specs.Clock.{periods}
 use Rattle.sound.proofs.adsr.rate_table.Statement.{statement}
 use Rattle.sound.proofs.adsr.rate_table.Tie as tie
 
-returns : tie.Need-returns
-unfolding periods
-returns c = refl
-
 pub rate-table-spec : {M : Type 1} → statement M
-rate-table-spec = tie.close (tie.spec returns)
+unfolding periods
+rate-table-spec = tie.close (tie.spec (λ c. refl))

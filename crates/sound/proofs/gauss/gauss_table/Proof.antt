@@ -4,9 +4,6 @@ use Rattle.sound.specs.Gauss.{weights}
 use Rattle.sound.proofs.gauss.gauss_table.Statement.{statement}
 use Rattle.sound.proofs.gauss.gauss_table.Tie as tie
 
-returns : tie.Need-returns
-unfolding weights
-returns c = refl
-
 pub gauss-table-spec : {M : Type 1} → statement M
-gauss-table-spec = tie.close (tie.spec returns)
+unfolding weights
+gauss-table-spec = tie.close (tie.spec (λ c. refl))

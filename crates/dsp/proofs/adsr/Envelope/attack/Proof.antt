@@ -1,11 +1,8 @@
 -- By the tests: at once, or as a timed step.
 use borrow.Author.Needs.{needs}
 use borrow.Author.Tests.{eq-eqb, ne-eqb}
-use mathlib.Core.Path.{_≡_, _∙_}
-use Prim.Native.Nat.{_+_, _*_}
-use Rattle.dsp.specs.Envelope.{risen, attackTick}
-use Rattle.dsp.specs.Inside.{asAdsr}
-use Rattle.dsp.proofs.Clocks.{steps, waits}
+use mathlib.Core.Path.{_≡_}
+use Rattle.dsp.specs.Envelope.{attackTick}
 use Rattle.dsp.proofs.adsr.Envelope.attack.Statement.{statement}
 use Rattle.dsp.proofs.adsr.Envelope.attack.Tie as tie
 
@@ -23,27 +20,26 @@ returns-2 : tie.Need-returns-2
 unfolding attackTick
 returns-2 c =
     let s = c .before .before .before .before .before .before .before .before .args .s in
-    let a = asAdsr s (c .before .before .before .before .before .before .before .before .args .self) in
-    rw (ne-eqb _ _ (c .before .before .before .before .before .if1 .left))
-    (c .risen2 .ensures s ∙ steps (2 * s .«attack_rate» + 1) (risen 32) a _ _ _ (c .before .before .before .tick-due .ensures) (c .before .before .counted .ensures s) (c .before .if2 .taken))
+    let t = c .before .before .before .tick-due .ensures in
+    rw (ne-eqb _ _ (c .before .before .before .before .before .if1 .left), ← t .1, c .before .if2 .taken, ← t .0, ← (c .before .before .counted .ensures s))
+    (c .risen2 .ensures s)
 
 returns-3 : tie.Need-returns-3
 unfolding attackTick
 returns-3 c =
-    let s = c .before .before .before .before .before .before .before .args .s in
-    let a = asAdsr s (c .before .before .before .before .before .before .before .args .self) in
-    rw (ne-eqb _ _ (c .before .before .before .before .if1 .left))
-    (waits (2 * s .«attack_rate» + 1) (risen 32) a _ _ _ (c .before .before .tick-due .ensures) (c .before .counted .ensures s) (c .if2 .left))
+    let t = c .before .before .tick-due .ensures in
+    rw (ne-eqb _ _ (c .before .before .before .before .if1 .left), ← t .1, c .if2 .left, ← t .0)
+    (c .before .counted .ensures (c .before .before .before .before .before .before .before .args .s))
 
 pub attack-spec : {M : Type 1} → statement M
 attack-spec =
     tie.close
     (tie.spec
+    (search needs)
+    (search needs)
+    (search needs)
     (λ c κs. search needs)
-    (λ c. search needs)
-    (λ c. search needs)
-    (λ c κs. search needs)
-    (λ c κs. search needs)
+    (search needs)
     risen-requires-2
     returns
     returns-2

@@ -14,4 +14,4 @@ unfolding fallenTo
 returns-2 c = rw (ne-eqb _ _ (c .before .if1 .left)) (c .levelled .ensures)
 
 pub fallen-to-spec : {M : Type 1} → statement M
-fallen-to-spec = tie.close (tie.spec (λ c κs. search needs) returns returns-2)
+fallen-to-spec = tie.close (tie.spec (search needs) returns returns-2)

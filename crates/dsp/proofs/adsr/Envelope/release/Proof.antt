@@ -9,4 +9,4 @@ unfolding releaseTick
 returns c = rw (← c .before .saturating-sub .ensures) (c .fallen-to .ensures)
 
 pub release-spec : {M : Type 1} → statement M
-release-spec = tie.close (tie.spec (λ c κs. search needs) (λ c κs. search needs) returns)
+release-spec = tie.close (tie.spec (search needs) (search needs) returns)

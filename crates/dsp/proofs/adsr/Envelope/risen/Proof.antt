@@ -14,10 +14,4 @@ unfolding risen
 returns-2 c = rw (lt-leb _ _ (c .before .if1 .left)) (c .levelled .ensures)
 
 pub risen-spec : {M : Type 1} → statement M
-risen-spec =
-    tie.close
-    (tie.spec
-    (λ c. search needs)
-    (λ c κs. search needs)
-    returns
-    returns-2)
+risen-spec = tie.close (tie.spec (search needs) (search needs) returns returns-2)

@@ -14,10 +14,4 @@ unfolding settled
 returns-2 c = rw (← c .before .before .lowered .ensures, lt-leb _ _ (c .before .if1 .left)) (c .levelled .ensures)
 
 pub settled-spec : {M : Type 1} → statement M
-settled-spec =
-    tie.close
-    (tie.spec
-    (λ c κs. search needs)
-    (λ c κs. search needs)
-    returns
-    returns-2)
+settled-spec = tie.close (tie.spec (search needs) (search needs) returns returns-2)

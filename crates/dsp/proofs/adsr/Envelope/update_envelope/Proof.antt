@@ -15,46 +15,49 @@ by-phase : (p : EnvelopePhase) (a r : Adsr) → gains a ≡ false → a .«envel
 unfolding envelopeTick
 by-phase p a r h e t = rw h (t ∙ ap (λ (q : EnvelopePhase). phaseTick q a) (sym e))
 
+not-gained : (c : tie.Else1) → let a = c .before .before .before .args in gains (asAdsr (a .s) (a .self)) ≡ false
+not-gained c = sym (c .before .gains .ensures) ∙ c .if1 .left
+
 returns : tie.Need-returns
 unfolding envelopeTick
 returns c = rw (← c .before .before .gains .ensures, c .before .if1 .taken) (c .update-gain .ensures)
 
 returns-2 : tie.Need-returns-2
 unfolding phaseTick
-returns-2 c = by-phase Attack (asAdsr (c .before .before .before .before .before .before .args .s) (c .before .before .before .before .before .before .args .self)) _ (sym (c .before .before .before .before .gains .ensures) ∙ c .before .before .before .if1 .left) (c .before .enum-told .given .1) (c .attack .ensures)
+returns-2 c = by-phase Attack _ _ (not-gained (c .before .before .before)) (c .before .enum-told .given .1) (c .attack .ensures)
 
 returns-3 : tie.Need-returns-3
 unfolding phaseTick
-returns-3 c = by-phase Decay (asAdsr (c .before .before .before .before .before .before .args .s) (c .before .before .before .before .before .before .args .self)) _ (sym (c .before .before .before .before .gains .ensures) ∙ c .before .before .before .if1 .left) (c .before .enum-told2 .given .1) (c .decay .ensures)
+returns-3 c = by-phase Decay _ _ (not-gained (c .before .before .before)) (c .before .enum-told2 .given .1) (c .decay .ensures)
 
 returns-4 : tie.Need-returns-4
 unfolding phaseTick
-returns-4 c = by-phase Sustain (asAdsr (c .before .before .before .before .before .before .args .s) (c .before .before .before .before .before .before .args .self)) _ (sym (c .before .before .before .before .gains .ensures) ∙ c .before .before .before .if1 .left) (c .before .enum-told3 .given .1) (c .sustain .ensures)
+returns-4 c = by-phase Sustain _ _ (not-gained (c .before .before .before)) (c .before .enum-told3 .given .1) (c .sustain .ensures)
 
 returns-5 : tie.Need-returns-5
 unfolding phaseTick
-returns-5 c = by-phase Release (asAdsr (c .before .before .before .before .before .before .args .s) (c .before .before .before .before .before .before .args .self)) _ (sym (c .before .before .before .before .gains .ensures) ∙ c .before .before .before .if1 .left) (c .before .enum-told4 .given .1) (c .release .ensures (c .before .before .before .before .before .before .args .s))
+returns-5 c = by-phase Release _ _ (not-gained (c .before .before .before)) (c .before .enum-told4 .given .1) (c .release .ensures (c .before .before .before .before .before .before .args .s))
 
 returns-6 : tie.Need-returns-6
 unfolding phaseTick
-returns-6 c = by-phase Off (asAdsr (c .before .before .before .before .before .args .s) (c .before .before .before .before .before .args .self)) _ (sym (c .before .before .before .gains .ensures) ∙ c .before .before .if1 .left) (c .enum-told5 .given .1) refl
+returns-6 c = by-phase Off _ _ (not-gained (c .before .before)) (c .enum-told5 .given .1) refl
 
 pub update-envelope-spec : {M : Type 1} → statement M
 update-envelope-spec =
     tie.close
     (tie.spec
-    (λ c κs. search needs)
+    (search needs)
     (λ c κs. search needs)
     returns
-    (λ c. search needs)
+    (search needs)
     (λ c κs. search needs)
-    (λ c. search needs)
+    (search needs)
     (λ c κs. search needs)
-    (λ c. search needs)
+    (search needs)
     (λ c κs. search needs)
-    (λ c. search needs)
-    (λ c κs. search needs)
-    (λ c. search needs)
+    (search needs)
+    (search needs)
+    (search needs)
     returns-2
     returns-3
     returns-4

@@ -1,7 +1,12 @@
 -- The chain of tests is the rule's.
-use Rattle.dsp.proofs.Rules.{chained-is}
+use mathlib.Core.Bool.{and-true}
+use Rattle.numbers.specs.Listed.{all}
 use Rattle.dsp.proofs.brr.Brr.is_fit.Statement.{statement}
 use Rattle.dsp.proofs.brr.Brr.is_fit.Tie as tie
 
+returns : tie.Need-returns
+unfolding all
+returns c = simp and-true
+
 pub is-fit-spec : {M : Type 1} → statement M
-is-fit-spec = tie.close (tie.spec (λ c. chained-is _))
+is-fit-spec = tie.close (tie.spec returns)

@@ -14,4 +14,4 @@ returns c =
     rw (landed w16 {z = l .result} (l .ok), landed w16 {z = r .result} (r .ok), l .ensures, r .ensures) (search needs)
 
 pub with-voice-spec : {M : Type 1} → statement M
-with-voice-spec = tie.close (tie.spec (λ c κs. search needs) (λ c κs. search needs) returns)
+with-voice-spec = tie.close (tie.spec (search needs) (search needs) returns)

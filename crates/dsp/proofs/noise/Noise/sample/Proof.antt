@@ -9,8 +9,8 @@ pub sample-spec : {M : Type 1} → statement M
 sample-spec =
     tie.close
     (tie.spec
-    (λ c. search needs)
+    (search needs)
     (λ c. let h = c .before .pre in fits (search (q-upto, calls) depth 20) tt)
-    (λ c κs. search needs)
+    (search needs)
     (λ c. let h = c .before .before .pre in fits (search (q-upto, calls) depth 20) tt)
     (λ c. let h = c .before .before .pre in reads (search (q-upto, calls) depth 20) tt))

@@ -3,15 +3,16 @@ use borrow.Author.Needs.{needs}
 use mathlib.Core.Path.{_≡_, _∙_, refl, sym, subst}
 use native.Mathlib.Omega.{arith}
 use Rattle.dsp.specs.Machine.{noVoice}
-use Rattle.dsp.specs.Voice.{consume}
-use Rattle.dsp.specs.Inside.{asSounding}
+use Rattle.dsp.specs.Voice.{Sounding, consume}
+use Rattle.dsp.specs.Inside.{asBrr, asSounding}
 use Rattle.dsp.specs.declared.voice.Voice.{Voice}
-use Rattle.dsp.proofs.Plays.{Ready, nothing-left, stops, goes-on, taken-ready}
+use Rattle.dsp.proofs.Moves.{taken-keeps}
+use Rattle.dsp.proofs.Plays.{Ready, ready, nothing-left, stops, goes-on}
 use Rattle.dsp.proofs.play.Play.consume.Statement.{statement}
 use Rattle.dsp.proofs.play.Play.consume.Tie as tie
 
 abbrev Inv-loop : tie.InvT-loop
-Inv-loop ram samples₀ dir srcn n p₀ left₀ samples p left = Ready (asSounding noVoice p samples) × ((v : Voice) → consume ram dir srcn left (asSounding v p samples) ≡ consume ram dir srcn n (asSounding v p₀ samples₀))
+Inv-loop ram samples₀ dir srcn n p₀ left₀ samples p left = Ready (asBrr p samples) × ((v : Voice) → consume ram dir srcn left (asSounding v p samples) ≡ consume ram dir srcn n (asSounding v p₀ samples₀))
 
 abbrev μ-loop : tie.MeasureT-loop
 μ-loop ram samples₀ dir srcn n p₀ left₀ samples p left = left
@@ -30,7 +31,7 @@ loop-again : tie.Need-loop-again Inv-loop μ-loop
 loop-again c =
     let l = c .before .before .before .before .before .before .before .loop in
     let t = c .before .before .before .take-one .ensures in
-    (subst Ready {x = t noVoice 1} (sym {b = t noVoice 1} (t noVoice)) (taken-ready _ _ _ _ (l .inv .0)), λ v. goes-on _ _ _ _ _ _ (search needs) (t v) (c .if1 .left) ∙ l .inv .1 v)
+    (subst (λ (s : Sounding). Ready (s .voice .brr)) {x = t noVoice 1} (sym {b = t noVoice 1} (t noVoice)) (taken-keeps ready _ _ _ _ (l .inv .0)), λ v. goes-on _ _ _ _ _ _ (search needs) (t v) (c .if1 .left) ∙ l .inv .1 v)
 
 pub consume-spec : {M : Type 1} → statement M
 consume-spec =
@@ -40,10 +41,10 @@ consume-spec =
     μ-loop
     (λ c. (record { sized = c .before .pre .1; block = c .before .pre .2 }, λ v. refl))
     take-one-requires
-    (λ c. search needs)
+    (search needs)
     returns
-    (λ c. search needs)
-    (λ c. search needs)
+    (search needs)
+    (search needs)
     loop-again
-    (λ c. search needs)
+    (search needs)
     (λ c. λ v. nothing-left _ _ _ _ _ (omega arith) ∙ c .before .loop .inv .1 v))

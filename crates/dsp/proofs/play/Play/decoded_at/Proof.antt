@@ -27,10 +27,4 @@ returns c v =
     ∙ ap (withBlock (a .at) (asSounding v (a .self) (a .samples .now))) (_∙_ {b = d 1} d (λ i. decodeBlock (a .ram .now) (a .at) (e₁ i) (e₂ i)))
 
 pub decoded-at-spec : {M : Type 1} → statement M
-decoded-at-spec =
-    tie.close
-    (tie.spec
-    (λ c κs. search needs)
-    (λ c κs. search needs)
-    (λ c. search needs)
-    returns)
+decoded-at-spec = tie.close (tie.spec (search needs) (search needs) (search needs) returns)

@@ -13,4 +13,4 @@ unfolding keyedOff
 returns-2 c v samples = rw (← c .before .is-off .ensures, c .if1 .left)
 
 pub keyed-off-spec : {M : Type 1} → statement M
-keyed-off-spec = tie.close (tie.spec (λ c κs. search needs) returns returns-2)
+keyed-off-spec = tie.close (tie.spec (search needs) returns returns-2)

@@ -13,11 +13,4 @@ unfolding keyedOn
 returns-2 c v samples e = rw (c .if1 .left)
 
 pub keyed-on-spec : {M : Type 1} → statement M
-keyed-on-spec =
-    tie.close
-    (tie.spec
-    (λ c. search needs)
-    (λ c. search needs)
-    (λ c κs. search needs)
-    returns
-    returns-2)
+keyed-on-spec = tie.close (tie.spec (search needs) (search needs) (search needs) returns returns-2)

@@ -18,10 +18,4 @@ unfolding placed
 returns-2 c v old new = rw (c .if1 .left) (c .before .before .before .filled .ensures v old new)
 
 pub placed-spec : {M : Type 1} → statement M
-placed-spec =
-    tie.close
-    (tie.spec
-    (λ c κs. search needs)
-    (λ c κs. search needs)
-    returns
-    returns-2)
+placed-spec = tie.close (tie.spec (search needs) (search needs) returns returns-2)

@@ -13,10 +13,4 @@ returns c v samples e = rw (e, dropped-listed (pos 0) (c .before .before .before
 
 pub push-history-spec : {M : Type 1} → statement M
 push-history-spec =
-    tie.close
-    (tie.spec
-    (λ c. search needs)
-    (λ c. search needs)
-    (λ c. search needs)
-    (λ c. search needs)
-    returns)
+    tie.close (tie.spec (search needs) (search needs) (search needs) (search needs) returns)

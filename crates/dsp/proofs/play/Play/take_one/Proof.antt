@@ -1,10 +1,10 @@
 -- By the nibble index.
 use borrow.Author.Needs.{needs}
-use mathlib.Core.Path.{_≡_, _∙_, ap, sym}
+use mathlib.Core.Path.{_≡_, sym}
 use borrow.Author.Tests.{eq-eqb, ne-eqb}
 use mir.Syntax.{w16}
 use Rattle.numbers.proofs.Range.{landed}
-use Rattle.dsp.specs.Voice.{pushedNext, nextBlock, takeOne}
+use Rattle.dsp.specs.Voice.{pushedNext, takeOne}
 use Rattle.dsp.specs.Inside.{asSounding}
 use Rattle.dsp.specs.declared.voice.Voice.{Voice}
 use Rattle.dsp.proofs.play.Play.take_one.Statement.{statement}
@@ -12,16 +12,13 @@ use Rattle.dsp.proofs.play.Play.take_one.Tie as tie
 
 -- the sample that is pushed is the buffer's, of 16 bits
 is-pushed : (c : tie.After-push-history) (v : Voice)
-    → asSounding v (c .push-history .result) (c .before .before .before .before .args .samples .now) ≡ pushedNext (asSounding v (c .before .before .before .before .args .self) (c .before .before .before .before .args .samples .now))
-is-pushed c v =
-    c .push-history .ensures v (c .before .before .before .before .args .samples .now) (sym (landed w16 (c .before .push-history-arg .given)))
+    → let a = c .before .before .before .before .args in asSounding v (c .push-history .result) (a .samples .now) ≡ pushedNext (asSounding v (a .self) (a .samples .now))
+is-pushed c v = c .push-history .ensures v (c .before .before .before .before .args .samples .now) (sym (landed w16 (c .before .push-history-arg .given)))
 
 returns : tie.Need-returns
 unfolding takeOne
 returns c v =
-    let a = c .before .before .before .before .before .before .before .before .before .args in
-    let h = is-pushed (c .before .before .before .before .before) v in
-    rw (eq-eqb _ _ (c .before .before .before .if1 .taken)) (let n = c .before .next-block .ensures v in _∙_ {b = n 1} n (ap (nextBlock (a .ram .now) (a .dir) (a .srcn)) h))
+    rw (eq-eqb _ _ (c .before .before .before .if1 .taken), ← is-pushed (c .before .before .before .before .before) v) (c .before .next-block .ensures v)
 
 returns-2 : tie.Need-returns-2
 unfolding takeOne
@@ -31,11 +28,11 @@ pub take-one-spec : {M : Type 1} → statement M
 take-one-spec =
     tie.close
     (tie.spec
-    (λ c. search needs)
-    (λ c. search needs)
-    (λ c. search needs)
-    (λ c κs. search needs)
-    (λ c κs. search needs)
-    (λ c. search needs)
+    (search needs)
+    (search needs)
+    (search needs)
+    (search needs)
+    (search needs)
+    (search needs)
     returns
     returns-2)

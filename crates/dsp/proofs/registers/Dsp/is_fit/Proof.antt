@@ -6,10 +6,9 @@ use Prim.Native.Nat.{_≤_, _<_, _-_}
 use native.Mathlib.Numerals.{add-one}
 use native.Mathlib.Omega.{arith}
 use lib.ListN.{getD, length}
-use Rattle.numbers.specs.Choice.{_≤?_}
 use Rattle.dsp.specs.Machine.{Globals}
 use Rattle.dsp.specs.Fit.{globalsRule, meets}
-use Rattle.dsp.proofs.Rules.{unmapped, fitUpTo, fit-none, fit-more, fit-whole}
+use Rattle.dsp.proofs.Rules.{unmapped, fitUpTo, fit-none, delay-is, fit-more, fit-whole}
 use Rattle.dsp.proofs.registers.Dsp.is_fit.Statement.{statement}
 use Rattle.dsp.proofs.registers.Dsp.is_fit.Tie as tie
 
@@ -33,7 +32,7 @@ loop-again c =
     let e = sized (c .before .before .before .before .before .before .before) in
     let l : n < length (d .voices) = omega arith in
     let m : n < length (d .«kon_delay») = omega arith in
-    (search needs, rw add-one ((λ i. c .before .before .before .before .loop .inv .1 i && c .is-fit2 .ensures i && (getD (d .«kon_delay») n 0 ≤? 5)) ∙ fit-more d n l m))
+    (search needs, rw add-one ((λ i. c .before .before .before .before .loop .inv .1 i && c .is-fit2 .ensures i && delay-is (getD (d .«kon_delay») n 0) i) ∙ fit-more d n l m))
 
 returns : tie.Need-returns Inv-loop μ-loop
 returns c =
@@ -48,14 +47,14 @@ is-fit-spec =
     (tie.spec
     Inv-loop
     μ-loop
-    (λ c κs. search needs)
-    (λ c κs. search needs)
+    (search needs)
+    (search needs)
     loop-holds
-    (λ c. search needs)
-    (λ c. search needs)
-    (λ c. search needs)
-    (λ c κs. search needs)
-    (λ c. search needs)
-    (λ c. search needs)
+    (search needs)
+    (search needs)
+    (search needs)
+    (search needs)
+    (search needs)
+    (search needs)
     loop-again
     returns)

@@ -13,10 +13,4 @@ unfolding writeOf
 returns-2 c = rw (← c .before .is-fit .ensures, c .if1 .left)
 
 pub write-reg-spec : {M : Type 1} → statement M
-write-reg-spec =
-    tie.close
-    (tie.spec
-    (λ c κs. search needs)
-    (λ c κs. search needs)
-    returns
-    returns-2)
+write-reg-spec = tie.close (tie.spec (search needs) (search needs) returns returns-2)

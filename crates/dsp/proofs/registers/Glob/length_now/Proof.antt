@@ -14,4 +14,4 @@ unfolding lengthNow
 returns-2 c = rw (ne-eqb _ _ (c .if1 .left))
 
 pub length-now-spec : {M : Type 1} → statement M
-length-now-spec = tie.close (tie.spec (λ c. search needs) (λ c. search needs) returns returns-2)
+length-now-spec = tie.close (tie.spec (search needs) (search needs) returns returns-2)

@@ -21,19 +21,21 @@ returns-2 c =
     let masters = c .before .before .before .before .before .before .before .before .struct-told2 .given .1 in
     let volumes = masters .1 .1 .1 .1 .1 .1 .1 .1 in
     let echoes = volumes .1 .1 .1 .1 .1 .1 .1 .1 in
-    rw (← s .before .before .bit .ensures, ← s .before .bit2 .ensures, s .if1 .left)
-    (λ i. record {
-      l = side-lands (l .result) (d .l) (g .«master_vol_left») (g .«echo_out_l») (g .«echo_vol_left») (l .ok) (sums .0 .1) (masters .0 .1) (echoes .0 .1) (volumes .0 .1) (l .ensures) i;
-      r = side-lands (r .result) (d .r) (g .«master_vol_right») (g .«echo_out_r») (g .«echo_vol_right») (r .ok) (sums .1 .0 .1) (masters .1 .0 .1) (echoes .1 .0 .1) (volumes .1 .0 .1) (r .ensures) i;
-    })
+    rw (
+      ← s .before .before .bit .ensures,
+      ← s .before .bit2 .ensures,
+      s .if1 .left,
+      side-lands (l .result) (d .l) (g .«master_vol_left») (g .«echo_out_l») (g .«echo_vol_left») (l .ok) (sums .0 .1) (masters .0 .1) (echoes .0 .1) (volumes .0 .1) (l .ensures),
+      side-lands (r .result) (d .r) (g .«master_vol_right») (g .«echo_out_r») (g .«echo_vol_right») (r .ok) (sums .1 .0 .1) (masters .1 .0 .1) (echoes .1 .0 .1) (volumes .1 .0 .1) (r .ensures),
+    )
 
 pub mastered-spec : {M : Type 1} → statement M
 mastered-spec =
     tie.close
     (tie.spec
-    (λ c κs. search needs)
-    (λ c κs. search needs)
+    (search needs)
+    (search needs)
     returns
-    (λ c κs. search needs)
-    (λ c κs. search needs)
+    (search needs)
+    (search needs)
     returns-2)

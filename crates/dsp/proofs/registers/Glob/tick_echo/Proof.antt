@@ -1,7 +1,6 @@
 -- Each side by its law; the write and the move take what the sides give.
 use borrow.Author.Needs.{needs}
-use mathlib.Core.Path.{_∙_}
-use Rattle.dsp.specs.Echo.{echoMoved, echoWritten, echoTick}
+use Rattle.dsp.specs.Echo.{echoTick}
 use Rattle.dsp.specs.Inside.{asGlobals}
 use Rattle.dsp.proofs.Echoes.{side-is}
 use Rattle.dsp.proofs.registers.Glob.tick_echo.Statement.{statement}
@@ -26,26 +25,21 @@ returns c =
     let efb = told .struct-told2 .given .1 .1 .1 .1 .1 .1 .1 .1 .1 .1 .1 .0 .1 in
     let l = side-is g (a .ram .now) (a .taps) 0 (a .left) (a .input .l) _ _ _ _ (read-l .read-echo-sample .ok) (fir-l .fir .ok) (fed-l .fed-back .ok) (input .0 .1) efb (read-l .read-echo-sample .ensures) (moved-l .moved-on .ensures) (fir-l .fir .ensures) (fed-l .fed-back .ensures) in
     let r = side-is g (a .ram .now) (a .taps) 2 (a .right) (a .input .r) _ _ _ _ (read-r .read-echo-sample2 .ok) (fir-r .fir2 .ok) (fed-r .fed-back2 .ok) (input .1 .0 .1) efb (read-r .read-echo-sample2 .ensures) (moved-r .moved-on2 .ensures) (fir-r .fir2 .ensures) (fed-r .fed-back2 .ensures) in
-    λ i. record {
-      globals = (c .echo-moved .ensures ∙ (λ j. echoMoved g (l .echo j) (r .echo j))) i;
-      left = l .moved i;
-      right = r .moved i;
-      ram = (write .write-echo .ensures ∙ (λ j. echoWritten g (a .ram .now) (l .fed j) (r .fed j))) i;
-    }
+    rw (c .echo-moved .ensures, l .echo, r .echo, l .moved, r .moved, write .write-echo .ensures, l .fed, r .fed)
 
 pub tick-echo-spec : {M : Type 1} → statement M
 tick-echo-spec =
     tie.close
     (tie.spec
-    (λ c κs. search needs)
-    (λ c κs. search needs)
-    (λ c κs. search needs)
-    (λ c κs. search needs)
-    (λ c κs. search needs)
-    (λ c κs. search needs)
-    (λ c κs. search needs)
-    (λ c κs. search needs)
+    (search needs)
+    (search needs)
+    (search needs)
+    (search needs)
+    (search needs)
+    (search needs)
+    (search needs)
+    (search needs)
     (λ c κs. c .before .before .before .before .before .before .before .before .before .before .before .before .before .before .before .before .pre .0)
     (λ c κs. c .before .before .before .before .before .before .before .before .before .before .before .before .before .before .before .before .before .before .before .pre .1)
-    (λ c. search needs)
+    (search needs)
     returns)

@@ -9,12 +9,12 @@ pub write-spec : {M : Type 1} → statement M
 write-spec =
     tie.close
     (tie.spec
-    (λ c κs. search needs)
-    (λ c κs. search needs)
-    (λ c. search needs)
-    (λ c κs. search needs)
-    (λ c κs. search needs)
-    (λ c κs. search needs)
+    (search needs)
+    (search needs)
+    (search needs)
+    (search needs)
+    (search needs)
+    (search needs)
     (λ c. rw (c .match .keys1))
     (λ c. rw (c .before .match .keys2, c .signed8 .ensures))
     (λ c. rw (c .before .match .keys3, c .signed82 .ensures))

@@ -14,5 +14,4 @@ returns-2 c = rw (← c .before .before .before .before .before .bit .ensures, c
 
 pub write-echo-spec : {M : Type 1} → statement M
 write-echo-spec =
-    tie.close
-    (tie.spec (λ c κs. search needs) (λ c κs. search needs) returns (λ c. search needs) returns-2)
+    tie.close (tie.spec (search needs) (search needs) returns (search needs) returns-2)

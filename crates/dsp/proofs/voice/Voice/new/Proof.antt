@@ -7,6 +7,6 @@ pub new-spec : {M : Type 1} → statement M
 new-spec =
     tie.close
     (tie.spec
-    (λ c κs. search needs)
-    (λ c κs. search needs)
+    (search needs)
+    (search needs)
     (λ c. rw (c .before .new .ensures, c .new2 .ensures)))

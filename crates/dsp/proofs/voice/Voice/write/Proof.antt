@@ -11,10 +11,10 @@ pub write-spec : {M : Type 1} → statement M
 write-spec =
     tie.close
     (tie.spec
-    (λ c κs. search needs)
-    (λ c κs. search needs)
-    (λ c κs. search needs)
-    (λ c κs. search needs)
+    (search needs)
+    (search needs)
+    (search needs)
+    (search needs)
     (λ c. rw (c .before .match .keys1, c .signed8 .ensures))
     (λ c. rw (c .before .match .keys2, c .signed82 .ensures))
     (λ c. rw (c .before .match .keys3, c .with-low .ensures))

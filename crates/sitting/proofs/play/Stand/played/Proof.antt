@@ -1,13 +1,12 @@
 -- Each record by its own law.
 use borrow.Author.Needs.{needs}
-use mathlib.Core.Path.{subst}
-use Prim.Native.Nat.{_+_, _*_, _≤_, _<_}
+use Prim.Native.Nat.{_<_}
 use native.Mathlib.Omega.{arith}
-use lib.ListN.{length}
-use Rattle.log.specs.Log.{Known}
-use Rattle.log.specs.Measure.{ticksIn, readingsIn}
-use Rattle.log.specs.declared.Record.{Record}
-use Rattle.sitting.proofs.Plays.{wrote, sounded, seen}
+use lib.ListN.{take}
+use Rattle.dsp.specs.Registers.{writeAt}
+use Rattle.dsp.proofs.Fits.{fit-kept-write}
+use Rattle.sitting.specs.Play.{play}
+use Rattle.sitting.specs.Stand.{standing}
 use Rattle.sitting.proofs.play.Stand.played.Statement.{statement}
 use Rattle.sitting.proofs.play.Stand.played.Tie as tie
 
@@ -16,42 +15,38 @@ value-small : (c : tie.After-known-told) → c .before .found .given .0 .1 .0 < 
 value-small c = search needs
 
 written-requires : tie.Need-written-requires
-written-requires c κs = (subst Known (c .before .found .given .1) (c .before .before .before .before .before .before .before .pre .2), c .before .before .before .before .before .before .before .pre .1)
+written-requires c κs = let s = c .before .before .before .before .before .before .before in (rw (c .before .found .given .1) at (s .pre .2), s .pre .1)
 
 ticked-requires : tie.Need-ticked-requires
-ticked-requires c κs = let s = c .before .before .before .before .before .before .before .before .before .before in
-    let a = s .args in
-    let e = c .before .before .before .before .found2 .given .1 in
-    (s .pre .0, s .pre .1, subst (λ (f : Record). a .self .ticks + ticksIn f ≤ 32000) e (s .pre .3), subst (λ (f : Record). (a .self .ticks + ticksIn f) * 4 ≤ length (a .pcm .now)) e (s .pre .4), subst (λ (f : Record). (a .self .ticks + ticksIn f) * 36 ≤ length (a .sheet .now)) e (s .pre .5))
+ticked-requires c κs =
+    let p = rw (c .before .before .before .before .found2 .given .1) at (c .before .before .before .before .before .before .before .before .before .before .pre) in
+    (p .0, p .1, p .3, p .4, p .5)
 
 read-requires : tie.Need-read-requires
-read-requires c κs = let s = c .before .before .before .before .before .before .before .before in
-    let a = s .args in
-    let e = c .before .before .found3 .given .1 in
-    let l = subst (λ (f : Record). a .self .readings + readingsIn f ≤ length (a .readings .now)) e (s .pre .6) in
-    (subst Known e (s .pre .2), omega (arith, l))
+read-requires c κs =
+    let p = rw (c .before .before .found3 .given .1) at (c .before .before .before .before .before .before .before .before .pre) in
+    (p .2, omega (arith, p .6))
 
 returns : tie.Need-returns
-returns c = let s = c .before .before .before .before .before .before .before .before in
-    let a = s .args in
+unfolding play writeAt
+returns c =
     let e = c .before .before .found .given .1 in
+    let p = rw e at (c .before .before .before .before .before .before .before .before .pre) in
+    let a = c .before .before .before .before .before .before .before .before .args in
     let w = c .written .ensures in
-    let k = wrote (a .work) (a .found) _ _ (a .self .dsp) _ (a .ram .now) (a .pcm .now) (a .sheet .now) (a .readings .now) (a .self .ticks) (a .self .readings) _ _ e (subst Known e (s .pre .2)) (value-small (c .before)) (s .pre .1) (w .0) (w .1) (w .2) in
-    (k .is, k .fit, k .ticks, k .readings)
+    rw e (λ i. standing (w .0 i) (a .ram .now) (a .pcm .now) (a .sheet .now) (a .readings .now) (w .1 i) (w .2 i), rw (w .0) (fit-kept-write _ _ _ (p .2) (value-small (c .before)) (p .1)), omega (arith, w .1), omega (arith, w .2))
 
 returns-2 : tie.Need-returns-2
-returns-2 c = let s = c .before .before .before .before .before .before .before .before .before .before .before .before .before .before .before .before .before in
-    let a = s .args in
+unfolding play
+returns-2 c =
     let t = c .before .before .before .before .before .before .ticked .ensures in
-    let k = sounded (a .work) (a .found) _ (a .self .dsp) _ (a .ram .now) _ (a .pcm .now) _ (a .sheet .now) _ (a .readings .now) (a .self .ticks) (a .self .readings) _ _ (c .before .before .before .before .before .before .before .before .before .before .before .found2 .given .1) (t .0) (t .1) (t .2) (t .3) in
-    (k .is, k .fit, k .ticks, k .readings)
+    rw (c .before .before .before .before .before .before .before .before .before .before .before .found2 .given .1) (λ i. record { bench = t .0 i; readings = take (t .3 i) (c .before .before .before .before .before .before .before .before .before .before .before .before .before .before .before .before .before .args .readings .now) }, t .1, t .2, omega (arith, t .3))
 
 returns-3 : tie.Need-returns-3
-returns-3 c = let s = c .before .before .before .before .before .before .before .before .before .before .before in
-    let a = s .args in
+unfolding play
+returns-3 c =
     let r = c .before .before .read .ensures in
-    let k = seen (a .work) (a .found) _ (a .self .dsp) _ (a .ram .now) (a .pcm .now) (a .sheet .now) (a .readings .now) _ (a .self .ticks) (a .self .readings) _ _ (c .before .before .before .before .before .found3 .given .1) (r .0) (s .pre .1) (r .1) (r .2) (r .3) in
-    (k .is, k .fit, k .ticks, k .readings)
+    rw (c .before .before .before .before .before .found3 .given .1) (cc, rw (r .1) (c .before .before .before .before .before .before .before .before .before .before .before .pre .1), omega (arith, r .2), r .3)
 
 pub played-spec : {M : Type 1} → statement M
 played-spec =

@@ -7,8 +7,9 @@ use Rattle.sitting.proofs.play.Stand.written.Statement.{statement}
 use Rattle.sitting.proofs.play.Stand.written.Tie as tie
 
 returns : tie.Need-returns
-returns c = let a = c .before .before .before .args in
-    (ap (λ (x : Written). x .dsp) (c .before .write-reg .ensures ∙ written (a .register) (a .value) (a .self .dsp) (c .before .before .before .pre .0) (c .before .before .before .pre .1)), refl, refl)
+returns c =
+    let s = c .before .before .before in
+    (ap (λ (x : Written). x .dsp) (c .before .write-reg .ensures ∙ written _ _ _ (s .pre .0) (s .pre .1)), refl, refl)
 
 pub written-spec : {M : Type 1} → statement M
 written-spec = tie.close (tie.spec (λ c κs. search needs) returns)
