@@ -3,6 +3,7 @@ pub mod Blocks
 pub mod Envelopes
 pub mod Pitch
 pub mod Plays
+pub mod Samples
 pub mod Outputs
 pub mod Echoes
 pub mod Readings
