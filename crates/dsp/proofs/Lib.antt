@@ -16,3 +16,6 @@ pub mod Ticks
 pub mod Drives
 pub mod Whole
 pub mod Batches
+pub mod Apart
+pub mod Steps
+pub mod Turning

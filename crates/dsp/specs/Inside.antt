@@ -197,6 +197,20 @@ asShared c =
       noise = c .noise;
     }
 
+-- where the echo is not worked, no input is summed for it
+abbrev pub heard : Bool → Shared → Shared
+heard echo c =
+    record {
+      koff = c .koff;
+      kon = c .kon;
+      «dir_base» = c .«dir_base»;
+      dir = c .dir;
+      non = c .non;
+      pmon = c .pmon;
+      eon = if echo then c .eon else 0;
+      noise = c .noise;
+    }
+
 abbrev pub asStereo : Sides → Stereo
 asStereo s = record { l = s .l; r = s .r }
 

@@ -13,7 +13,7 @@ ghost use Rattle.dsp.specs.Mix.{masterOf};
 ghost use Rattle.dsp.specs.Echo.{EchoLane, echoLane};
 ghost use Rattle.dsp.specs.Tick.{polls, konNow, globalsTick, sharedOf, frameOf};
 ghost use Rattle.dsp.specs.Ticks.{Bench, benchOf, ticksOf, Drove, driveOf, After, stepOf};
-ghost use Rattle.dsp.specs.Inside.{Wound, envelopeOf, dialOf, playOf, feedOf, asShared, asSums, asNoise, asGlobals, noDial, samplesAt, voicesIn, partsIn};
+ghost use Rattle.dsp.specs.Inside.{Wound, envelopeOf, dialOf, playOf, feedOf, asShared, heard, asSums, asNoise, asGlobals, noDial, samplesAt, voicesIn, partsIn};
 use crate::adsr::Envelope;
 use crate::echo::put_pair;
 use crate::lane::Acc;
@@ -80,10 +80,17 @@ impl Glob {
         }
     }
 
+    // Where the echo is not worked, no input is summed for it.
+    fn heard_eon(self, echo: bool) -> u8
+        ensures { λ r. ⌜ r ≡ (if echo then self .eon else 0) ⌝ }
+    {
+        if echo { self.eon } else { 0 }
+    }
+
     // What the voices see: the noise as it has moved, the rest as it stood before the tick.
-    fn shared(self, noise: Noise, koff: u8, dir: u8) -> Shared
+    fn shared(self, echo: bool, noise: Noise, koff: u8, dir: u8) -> Shared
         requires { ⌜ noise .lfsr ≤ 0x7FFF ⌝ }
-        ensures { λ r. ⌜ ((bytes : List ℕ) → getD bytes 0x5C 0 ≡ koff → getD bytes 0x5D 0 ≡ dir → asNoise noise ≡ noiseTick (self .flg) (asNoise (self .noise)) → asShared r ≡ sharedOf (asGlobals self) bytes) ⌝ }
+        ensures { λ r. ⌜ ((bytes : List ℕ) → getD bytes 0x5C 0 ≡ koff → getD bytes 0x5D 0 ≡ dir → asNoise noise ≡ noiseTick (self .flg) (asNoise (self .noise)) → asShared r ≡ heard echo (sharedOf (asGlobals self) bytes)) ⌝ }
     {
         Shared {
             koff: self.polled_koff(koff),
@@ -92,7 +99,7 @@ impl Glob {
             dir,
             non: self.non,
             pmon: self.pmon,
-            eon: self.eon,
+            eon: self.heard_eon(echo),
             noise: noise.sample(),
         }
     }
@@ -164,6 +171,24 @@ impl Far {
 }
 
 impl Moving {
+    fn enveloped(self) -> [Envelope; 8]
+        ensures { λ r. ⌜ r ≡ self .envelopes ⌝ }
+    {
+        self.envelopes
+    }
+
+    fn played(self) -> [Play; 8]
+        ensures { λ r. ⌜ r ≡ self .plays ⌝ }
+    {
+        self.plays
+    }
+
+    fn fed(self) -> [Feed; 8]
+        ensures { λ r. ⌜ r ≡ self .feeds ⌝ }
+    {
+        self.feeds
+    }
+
     // n ticks, with their samples and their rows of the sheet.
     pub(crate) fn drive(
         self,
@@ -185,15 +210,15 @@ impl Moving {
         ensures { λ r. ⌜ (_≡_ {A = Bench} (record { parts = partsIn r dials taps (now (currents .exit)) (now (delays .exit)) (now (store .exit)) (now (bytes .exit)); ram = now (ram .exit); pcm = now (pcm .exit); sheet = now (sheet .exit); old = [] }) (ticksOf work n (record { parts = partsIn self dials taps (now (currents .entry)) (now (delays .entry)) (now (store .entry)) (now (bytes .entry)); ram = now (ram .entry); pcm = []; sheet = []; old = now (sheet .entry) }))) × Fit (together (partsIn r dials taps (now (currents .exit)) (now (delays .exit)) (now (store .exit)) (now (bytes .exit)))) ⌝ }
     {
         let mut f = self.far;
-        let mut envelopes = self.envelopes;
-        let mut plays = self.plays;
-        let mut feeds = self.feeds;
+        let mut envelopes = self.enveloped();
+        let mut plays = self.played();
+        let mut feeds = self.fed();
         let mut i: usize = 0;
         while i < n {
             let g = f.glob;
             f = f.ticked(rates);
             let h = f.glob;
-            let c = g.shared(h.noise, bytes[0x5C], bytes[0x5D]);
+            let c = g.shared(work.echo, h.noise, bytes[0x5C], bytes[0x5D]);
             let mut acc = Acc::new();
             let mut v: usize = 0;
             while v < 8 {

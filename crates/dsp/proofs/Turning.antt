@@ -1,0 +1,267 @@
+-- A voice's turn over the arrays, on plain values: behind its poll, behind its block change, behind its step, and where it lands, the arrays
+-- stand for what the definition gives.
+use mathlib.Core.Bool.{Bool, true, false, _||_}
+use mathlib.Core.List.{List}
+use mathlib.Core.Logic.{_≢_}
+use mathlib.Core.Path.{_≡_, refl, sym, ap, subst, _∙_}
+use Prim.Native.Nat.{ℕ, _+_, _-_, _*_, _/_, _≤_, _<_}
+use native.Mathlib.Omega.{arith}
+use lib.IntN.{ℤ, pos}
+use lib.ListN.{getD, set, length, length-set}
+use lib.Seq.{getD-set-same, getD-set-other, set-getD, set-set, set-comm}
+use borrow.Author.Tests.{eq-eqb, ne-eqb}
+use borrow.Rule.Slice.PartMut.{putMid}
+use Rattle.numbers.specs.Choice.{if_then_else_, _=?_}
+use Rattle.numbers.specs.Bits.{bit, withBit}
+use Rattle.numbers.specs.Signed.{highZ}
+use Rattle.numbers.proofs.Choice.{chosen}
+use Rattle.numbers.proofs.Bits.{with-own, with-twice, bit-here}
+use Rattle.dsp.specs.With.{withSample}
+use Rattle.dsp.specs.Keys.{keyedOff, keyedOn, polledEndx, polledDelay}
+use Rattle.dsp.specs.Interpolation.{interpolateZ}
+use Rattle.dsp.specs.Voice.{Sounding, PitchSource, idle, interpolated, Stepped, shown, voiceStep}
+use Rattle.dsp.specs.Mix.{scaledOutput}
+use Rattle.dsp.specs.Sheet.{laneBytes}
+use Rattle.dsp.specs.Lane.{Shared, polledOf, Waiting, letStep, waited, sourceOf, waitedOf, noised, cellAfter, cellOf, ownCell, putEndx, putBytes, Sums, added, Landed, turned}
+use Rattle.dsp.specs.Inside.{historyOf, asVoice, asSounding, begunOf, dueOf, restLeft, blockAddress, goneOn, samplesAt, noDial, noEnvelope, noPlay, noFeed}
+use Rattle.dsp.specs.declared.adsr.Envelope.{Envelope}
+use Rattle.dsp.specs.declared.lane.Dial.{Dial}
+use Rattle.dsp.specs.declared.play.Feed.{Feed}
+use Rattle.dsp.specs.declared.play.Play.{Play}
+use Rattle.dsp.specs.declared.voice.Voice.{Voice}
+use Rattle.dsp.proofs.Apart.{Arrays, arrays, Sized, voiceAt, Beside, besides}
+use Rattle.dsp.proofs.Samples.{onceOf}
+use Rattle.dsp.proofs.Steps.{Ticks, idle-step, sounding-step, in-block, past-block}
+
+-- ---- the ENDX bit
+
+abbrev pub endxOf : ℕ → List ℕ → Bool
+endxOf j bytes = bit (getD bytes 0x7C 0) j
+
+put-own : (j : ℕ) (bytes : List ℕ) → putEndx j (endxOf j bytes) bytes ≡ bytes
+put-own j bytes = ap (set bytes 0x7C) (with-own (getD bytes 0x7C 0) j) ∙ set-getD bytes 0x7C 0
+
+put-twice : (j : ℕ) (a b : Bool) (bytes : List ℕ) → length bytes ≡ 128 → putEndx j b (putEndx j a bytes) ≡ putEndx j b bytes
+put-twice j a b bytes h =
+    set-set bytes 0x7C _ _
+    ∙ ap (λ (x : ℕ). set bytes 0x7C (withBit x j b)) (getD-set-same bytes 0x7C _ 0 (omega arith))
+    ∙ ap (set bytes 0x7C) (with-twice (getD bytes 0x7C 0) j a b)
+
+-- what the poll and the block change write of it
+polled-endx : (j : ℕ) (on : Bool) (bytes : List ℕ) → (if on then putEndx j false bytes else bytes) ≡ putEndx j (polledEndx on (endxOf j bytes)) bytes
+polled-endx j true bytes = refl
+polled-endx j false bytes = sym (put-own j bytes)
+
+ended-endx : (j : ℕ) (end endx : Bool) (bytes : List ℕ) → length bytes ≡ 128
+    → (if end then putEndx j true (putEndx j endx bytes) else putEndx j endx bytes) ≡ putEndx j (endx || end) bytes
+ended-endx j true true bytes h = put-twice j true true bytes h
+ended-endx j true false bytes h = put-twice j false true bytes h
+ended-endx j false true bytes h = refl
+ended-endx j false false bytes h = refl
+
+-- ---- in the turn of voice j: the arrays and the bytes stand for the voice u, and no other moved
+
+pub record Stands (dials : List Dial) (j : ℕ) (a₀ : Arrays) (bytes₀ : List ℕ) (u : Sounding) (a : Arrays) (bytes : List ℕ) : Type 0 where
+  pub sized : Sized a
+  pub others : Beside dials j a₀ a
+  pub voice : voiceAt dials a j ≡ u .voice
+  pub bytes-are : bytes ≡ putEndx j (u .endx) bytes₀
+
+-- behind its step, or a skipped tick
+pub record Waited (dials : List Dial) (j : ℕ) (a₀ : Arrays) (delays₀ bytes₀ : List ℕ) (w : Waiting) (a : Arrays) (delays bytes : List ℕ) : Type 0 where
+  pub sized : Sized a
+  pub others : Beside dials j a₀ a
+  pub voice : voiceAt dials a j ≡ w .sounding .voice
+  pub waits : delays ≡ set delays₀ j (w .delay)
+  pub bytes-are : bytes ≡ set (putEndx j (w .sounding .endx) bytes₀) (j * 16 + 8) (w .envx)
+
+abbrev pub polledAt : List Dial → Shared → ℕ → Arrays → List ℕ → Sounding
+polledAt dials c j a bytes = polledOf c j (voiceAt dials a j) (endxOf j bytes)
+
+abbrev pub waitAt : List Dial → Shared → List ℕ → ℕ → ℤ → Arrays → List ℕ → List ℕ → Waiting
+waitAt dials c ram j prev a delays bytes =
+    waitedOf c ram j prev (voiceAt dials a j) (getD delays j 0) (getD bytes (j * 16 + 4) 0) (getD bytes (j * 16 + 8) 0) (endxOf j bytes)
+
+abbrev delayAt : Shared → ℕ → List ℕ → ℕ
+delayAt c j delays = polledDelay (bit (c .kon) j) (getD delays j 0)
+
+-- behind the poll
+pub record Polled (dials : List Dial) (c : Shared) (j : ℕ) (a₀ : Arrays) (delays₀ bytes₀ : List ℕ) (a : Arrays) (delays bytes : List ℕ) : Type 0 where
+  pub stands : Stands dials j a₀ bytes₀ (polledAt dials c j a₀ bytes₀) a bytes
+  pub waits : delays ≡ set delays₀ j (delayAt c j delays₀)
+
+module _ (dials : List Dial) (c : Shared) (j : ℕ) (a₀ : Arrays) (delays₀ bytes₀ : List ℕ) (lt : j < 8) (h₀ : Sized a₀) where
+  pub not-polled : bit (c .koff) j ≡ false → bit (c .kon) j ≡ false → Polled dials c j a₀ delays₀ bytes₀ a₀ delays₀ bytes₀
+  unfolding polledOf keyedOff keyedOn
+  not-polled off on =
+      record {
+        stands = record { sized = h₀; others = λ k n. refl; voice = rw (on, off); bytes-are = rw on (sym (put-own j bytes₀)) };
+        waits = rw on (sym (set-getD delays₀ j 0));
+      }
+
+  -- as the code's poll leaves them
+  pub is-polled : (e : Envelope) (p : Play) (f : Feed) (currents : List ℤ) (delays bytes : List ℕ)
+      → ((v : Voice) (samples : List ℤ) (endx : Bool) → v .srcn ≡ getD dials j noDial .srcn
+      → asSounding (withSample v (getD currents j (pos 0))) e p f samples (if bit (c .kon) j then false else endx)
+      ≡ polledOf c j (asSounding (withSample v (getD (a₀ .currents) j (pos 0))) (getD (a₀ .envelopes) j noEnvelope) (getD (a₀ .plays) j noPlay) (getD (a₀ .feeds) j noFeed) samples endx .voice) endx)
+      → currents ≡ (if bit (c .kon) j then set (a₀ .currents) j (pos 0) else a₀ .currents)
+      → delays ≡ set delays₀ j (delayAt c j delays₀)
+      → bytes ≡ (if bit (c .kon) j then putEndx j false bytes₀ else bytes₀)
+      → Polled dials c j a₀ delays₀ bytes₀ (arrays (set (a₀ .envelopes) j e) (set (a₀ .plays) j p) (set (a₀ .feeds) j f) currents (a₀ .store)) delays bytes
+  unfolding polledOf
+  is-polled e p f currents delays bytes ev ec ed eb =
+      let on = bit (c .kon) j in
+      let b = arrays (set (a₀ .envelopes) j e) (set (a₀ .plays) j p) (set (a₀ .feeds) j f) currents (a₀ .store) in
+      record {
+        stands =
+            record {
+              sized =
+                  record {
+                    envelopes = simp length-set (h₀ .envelopes);
+                    plays = simp length-set (h₀ .plays);
+                    feeds = simp length-set (h₀ .feeds);
+                    currents = ap (λ (l : List ℤ). length l) ec ∙ chosen (λ (l : List ℤ). length l ≡ 8) on (simp length-set (h₀ .currents)) (h₀ .currents);
+                    store = h₀ .store;
+                  };
+              others =
+                  besides dials j a₀ b (λ k n. getD-set-other (a₀ .envelopes) j k e noEnvelope n) (λ k n. getD-set-other (a₀ .plays) j k p noPlay n) (λ k n. getD-set-other (a₀ .feeds) j k f noFeed n)
+                  (λ k n. ap (λ (l : List ℤ). getD l k (pos 0)) ec ∙ chosen (λ (l : List ℤ). getD l k (pos 0) ≡ getD (a₀ .currents) k (pos 0)) on (getD-set-other (a₀ .currents) j k (pos 0) (pos 0) n) refl)
+                  (λ k n. refl);
+              voice =
+                  (λ i. asVoice (getD dials j noDial) (getD-set-same (a₀ .envelopes) j e noEnvelope (omega (arith, h₀ .envelopes)) i) (getD-set-same (a₀ .plays) j p noPlay (omega (arith, h₀ .plays)) i) (getD-set-same (a₀ .feeds) j f noFeed (omega (arith, h₀ .feeds)) i) (getD currents j (pos 0)) (samplesAt j (a₀ .store)))
+                  ∙ ap (λ (s : Sounding). s .voice) (ev (voiceAt dials a₀ j) (samplesAt j (a₀ .store)) (endxOf j bytes₀) refl);
+              bytes-are = eb ∙ polled-endx j on bytes₀;
+            };
+        waits = ed;
+      }
+
+  module _ (ram : List ℕ) (prev : ℤ) (a : Arrays) (delays bytes : List ℕ) (ld : length delays₀ ≡ 8) (lb : length bytes₀ ≡ 128) (q : Polled dials c j a₀ delays₀ bytes₀ a delays bytes) where
+    -- the delay that is tested, and the bytes that the poll leaves as they were
+    delay-now : getD delays j 0 ≡ delayAt c j delays₀
+    delay-now = ap (λ (l : List ℕ). getD l j 0) (q .waits) ∙ getD-set-same delays₀ j (delayAt c j delays₀) 0 (omega arith)
+
+    pub byte-there : (n : ℕ) → n ≢ 0x7C → getD bytes n 0 ≡ getD bytes₀ n 0
+    byte-there n e = ap (λ (l : List ℕ). getD l n 0) (q .stands .bytes-are) ∙ getD-set-other bytes₀ 0x7C n _ 0 e
+
+    abbrev pub waiting : Waiting
+    waiting = waitAt dials c ram j prev a₀ delays₀ bytes₀
+
+    pub skips : (getD delays j 0 ≡ 0 → ⊥) → Waited dials j a₀ delays₀ bytes₀ waiting a (set delays j (getD delays j 0 - 1)) (set bytes (j * 16 + 8) 0)
+    unfolding waitedOf waited
+    skips n =
+        let d = delayAt c j delays₀ in
+        let z : (d =? 0) ≡ false = ne-eqb d 0 (λ (e : d ≡ 0). n (delay-now ∙ e)) in
+        record {
+          sized = q .stands .sized;
+          others = q .stands .others;
+          voice = rw z (q .stands .voice);
+          waits = rw z (ap (λ (l : List ℕ). set l j (getD delays j 0 - 1)) (q .waits) ∙ set-set delays₀ j d (getD delays j 0 - 1) ∙ ap (λ (k : ℕ). set delays₀ j (k - 1)) delay-now);
+          bytes-are = rw z (ap (λ (l : List ℕ). set l (j * 16 + 8) 0) (q .stands .bytes-are));
+        }
+
+    -- ---- the step
+
+    abbrev pub source : PitchSource
+    source = sourceOf (c .pmon) j prev
+
+    abbrev pub endx : Bool
+    endx = polledAt dials c j a₀ bytes₀ .endx
+
+    -- the voice with its envelope ticked
+    abbrev pub ticking : Envelope → Sounding
+    ticking h = asSounding (voiceAt dials a j) h (getD (a .plays) j noPlay) (getD (a .feeds) j noFeed) (samplesAt j (a .store)) endx
+
+    stepped : getD delays j 0 ≡ 0
+        → letStep (voiceStep ram (c .dir) (getD bytes₀ (j * 16 + 4) 0) source (getD bytes₀ (j * 16 + 8) 0) (ticking (getD (a .envelopes) j noEnvelope))) ≡ waiting
+    unfolding polledOf waitedOf waited
+    stepped e =
+        let z : (delayAt c j delays₀ =? 0) ≡ true = eq-eqb (delayAt c j delays₀) 0 (sym delay-now ∙ e) in
+        rw z (λ i. letStep (voiceStep ram (c .dir) (getD bytes₀ (j * 16 + 4) 0) source (getD bytes₀ (j * 16 + 8) 0) (record { voice = q .stands .voice i; endx = endx })))
+
+    none-left : getD delays j 0 ≡ 0 → delays ≡ set delays₀ j 0
+    none-left e = q .waits ∙ ap (set delays₀ j) (sym delay-now ∙ e)
+
+    -- arrays b, in which a few records of voice j are put in the place of those of a
+    stood : (b : Arrays) (bytes′ : List ℕ) (k : Envelope) (r : Play) (f : Feed) (new : List ℤ) (endx′ : Bool) (u : Sounding) → Sized b → Beside dials j a b
+        → getD (b .envelopes) j noEnvelope ≡ k → getD (b .plays) j noPlay ≡ r → getD (b .feeds) j noFeed ≡ f → b .currents ≡ a .currents → samplesAt j (b .store) ≡ new
+        → bytes′ ≡ putEndx j endx′ bytes₀ → asSounding (voiceAt dials a j) k r f new endx′ ≡ u → Stands dials j a₀ bytes₀ u b bytes′
+    stood b bytes′ k r f new endx′ u h o ek er ef ex es eb eu =
+        record {
+          sized = h;
+          others = λ n ne. o n ne ∙ q .stands .others n ne;
+          voice = (λ i. asVoice (getD dials j noDial) (ek i) (er i) (ef i) (getD (ex i) j (pos 0)) (es i)) ∙ ap (λ (s : Sounding). s .voice) eu;
+          bytes-are = eb ∙ ap (λ (s : Sounding). putEndx j (s .endx) bytes₀) eu;
+        }
+
+    module _ (h : Envelope) where
+      abbrev rose : Arrays
+      rose = arrays (set (a .envelopes) j h) (a .plays) (a .feeds) (a .currents) (a .store)
+
+      rose-sized : Sized rose
+      rose-sized = let z = q .stands .sized in record { envelopes = simp length-set (z .envelopes); plays = z .plays; feeds = z .feeds; currents = z .currents; store = z .store }
+
+      rose-at : getD (rose .envelopes) j noEnvelope ≡ h
+      rose-at = getD-set-same (a .envelopes) j h noEnvelope (omega (arith, q .stands .sized .envelopes))
+
+      rose-beside : (k : ℕ) → k ≢ j → getD (rose .envelopes) k noEnvelope ≡ getD (a .envelopes) k noEnvelope
+      rose-beside k n = getD-set-other (a .envelopes) j k h noEnvelope n
+
+      module _ (e : getD delays j 0 ≡ 0) (t : Ticks (voiceAt dials a j) (getD (a .envelopes) j noEnvelope) h) where
+        -- an idle voice: its envelope alone moved
+        pub idles : idle (ticking h .voice) ≡ true → Waited dials j a₀ delays₀ bytes₀ waiting rose delays bytes
+        idles i =
+            let x = getD bytes₀ (j * 16 + 8) 0 in
+            let w = ap letStep (idle-step ram (c .dir) (getD bytes₀ (j * 16 + 4) 0) x source (voiceAt dials a j) (getD (a .envelopes) j noEnvelope) h (getD (a .plays) j noPlay) (getD (a .feeds) j noFeed) (samplesAt j (a .store)) endx t i) ∙ stepped e in
+            let s = stood rose bytes h (getD (a .plays) j noPlay) (getD (a .feeds) j noFeed) (samplesAt j (a .store)) endx (ticking h) rose-sized (besides dials j a rose rose-beside (λ k n. refl) (λ k n. refl) (λ k n. refl) (λ k n. refl)) rose-at refl refl refl refl (q .stands .bytes-are) refl in
+            subst (λ (y : Waiting). Waited dials j a₀ delays₀ bytes₀ y rose delays bytes) w
+            (record {
+              sized = s .sized;
+              others = s .others;
+              voice = s .voice;
+              waits = none-left e;
+              bytes-are =
+                  s .bytes-are
+                  ∙ sym (set-getD (putEndx j endx bytes₀) (j * 16 + 8) 0)
+                  ∙ ap (set (putEndx j endx bytes₀) (j * 16 + 8)) (getD-set-other bytes₀ 0x7C (j * 16 + 8) _ 0 (λ (z : j * 16 + 8 ≡ 0x7C). omega arith));
+            })
+
+        -- a voice that sounds: its samples taken, its sample and its ENVX are written
+        pub sounds : (b : Arrays) (bytes′ : List ℕ) → idle (ticking h .voice) ≡ false → getD (a .plays) j noPlay .«nibble_idx» ≤ 15
+            → Stands dials j a₀ bytes₀ (onceOf ram (c .dir) (getD bytes₀ (j * 16 + 4) 0) source (ticking h)) b bytes′
+            → (let p = getD (b .plays) j noPlay in
+            Waited dials j a₀ delays₀ bytes₀ waiting (arrays (b .envelopes) (b .plays) (b .feeds) (set (b .currents) j (interpolateZ (p .«pitch_counter») (historyOf p))) (b .store)) delays
+            (set bytes′ (j * 16 + 8) (getD (b .envelopes) j noEnvelope .level / 16)))
+        unfolding interpolated
+        sounds b bytes′ i l s =
+            let u = onceOf ram (c .dir) (getD bytes₀ (j * 16 + 4) 0) source (ticking h) in
+            let p = getD (b .plays) j noPlay in
+            let y = interpolateZ (p .«pitch_counter») (historyOf p) in
+            let d = arrays (b .envelopes) (b .plays) (b .feeds) (set (b .currents) j y) (b .store) in
+            let w = ap letStep (sounding-step ram (c .dir) (getD bytes₀ (j * 16 + 4) 0) (getD bytes₀ (j * 16 + 8) 0) source (voiceAt dials a j) (getD (a .envelopes) j noEnvelope) h (getD (a .plays) j noPlay) (getD (a .feeds) j noFeed) (samplesAt j (a .store)) endx t i l) ∙ stepped e in
+            subst (λ (z : Waiting). Waited dials j a₀ delays₀ bytes₀ z d delays (set bytes′ (j * 16 + 8) (getD (b .envelopes) j noEnvelope .level / 16))) w
+            (record {
+              sized = let z = s .sized in record { envelopes = z .envelopes; plays = z .plays; feeds = z .feeds; currents = simp length-set (z .currents); store = z .store };
+              others = λ k n. besides dials j b d (λ k n. refl) (λ k n. refl) (λ k n. refl) (λ k n. getD-set-other (b .currents) j k y (pos 0) n) (λ k n. refl) k n ∙ s .others k n;
+              voice =
+                  (λ k. asVoice (getD dials j noDial) (getD (b .envelopes) j noEnvelope) p (getD (b .feeds) j noFeed) (getD-set-same (b .currents) j y (pos 0) (omega (arith, s .sized .currents)) k) (samplesAt j (b .store)))
+                  ∙ ap interpolated (s .voice);
+              waits = none-left e;
+              bytes-are = (λ k. set (s .bytes-are k) (j * 16 + 8) (s .voice k .adsr .«envelope_level» / 16));
+            })
+
+      -- the samples that its block still has are taken: p
+      module _ (p : Play) (begun : asSounding (voiceAt dials a j) h p (getD (a .feeds) j noFeed) (samplesAt j (a .store)) endx ≡ begunOf source (ticking h)) where
+        abbrev took : Arrays
+        took = arrays (set (a .envelopes) j h) (set (a .plays) j p) (a .feeds) (a .currents) (a .store)
+
+        took-beside : (k : ℕ) → k ≢ j → getD (took .plays) k noPlay ≡ getD (a .plays) k noPlay
+        took-beside k n = getD-set-other (a .plays) j k p noPlay n
+
+        pub in-its-block : dueOf source (ticking h) ≡ false → Stands dials j a₀ bytes₀ (onceOf ram (c .dir) (getD bytes₀ (j * 16 + 4) 0) source (ticking h)) took bytes
+        in-its-block d =
+            let z = q .stands .sized in
+            stood took bytes h p (getD (a .feeds) j noFeed) (samplesAt j (a .store)) endx _
+            (record { envelopes = rose-sized .envelopes; plays = simp length-set (z .plays); feeds = z .feeds; currents = z .currents; store = z .store })
+            (besides dials j a took rose-beside took-beside (λ k n. refl) (λ k n. refl) (λ k n. refl))
+            rose-at (getD-set-same (a .plays) j p noPlay (omega (arith, z .plays))) refl refl refl (q .stands .bytes-are)
+            (in-block ram (c .dir) (getD bytes₀ (j * 16 + 4) 0) source (ticking h) _ begun d)
