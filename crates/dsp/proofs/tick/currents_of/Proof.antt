@@ -1,4 +1,4 @@
--- After n turns the first n samples are those of the voices.
+-- After n turns the first n current samples are those of the voices.
 use borrow.Author.Needs.{needs}
 use Prim.Native.Nat.{_-_}
 use mir.Syntax.{w16}

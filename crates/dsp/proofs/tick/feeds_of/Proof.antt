@@ -1,4 +1,4 @@
--- After n turns the first n records are those of the voices.
+-- After n turns the first n feeds are those of the voices.
 use borrow.Author.Needs.{needs}
 use Prim.Native.Nat.{_-_}
 use Rattle.dsp.specs.Machine.{noVoice}
