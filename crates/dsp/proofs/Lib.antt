@@ -1,4 +1,5 @@
 pub mod Rules
+pub mod Arrays
 pub mod Blocks
 pub mod Envelopes
 pub mod Pitch
