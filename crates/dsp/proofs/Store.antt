@@ -4,7 +4,7 @@ use mathlib.Core.Logic.{_⊎_, inl, inr, ⊎-elim}
 use mathlib.Core.Path.{_≡_, sym, ap, _∙_}
 use Prim.Native.Nat.{ℕ, _+_, _-_, _*_, _≤_, _<_}
 use native.Mathlib.Omega.{arith}
-use native.Mathlib.Decide.{decLt}
+use native.Mathlib.Decide.{decLt, ℕ-discrete}
 use lib.IntN.{ℤ}
 use lib.ListN.{take, drop, length, length-drop, take-append-drop}
 use lib.Seq.{length-take-le, take-at, drop-at, drop-drop, take-append-le, drop-append-le}
@@ -69,3 +69,12 @@ module _ (j : ℕ) (store samples : List ℤ) (room : j * 16 + 16 ≤ length sto
       (λ l. mid-before (j * 16) 16 store samples room e (k * 16) 16 (omega (arith, l)))
       (λ l. mid-behind (j * 16) 16 store samples room e (k * 16) 16 (omega (arith, l)))
       (apart k j n)
+
+  -- where the parts before j are said, j's is too
+  pub parts-more : (f : ℕ → List ℤ) → samples ≡ f j → ((k : ℕ) → k < j → samplesAt k store ≡ f k)
+      → (k : ℕ) → k < j + 1 → samplesAt k (putMid (j * 16) 16 store samples) ≡ f k
+  parts-more f is said k l =
+      elim (ℕ-discrete k j) [
+        | yes p ↦ rw p (samples-here ∙ is)
+        | no p ↦ samples-there k p ∙ said k (omega (arith, p, l))
+      ]
