@@ -8,12 +8,12 @@ use native.Mathlib.Decide.{decLt, ℕ-discrete}
 use lib.IntN.{ℤ}
 use lib.ListN.{take, drop, length, length-drop, take-append-drop}
 use lib.Seq.{length-take-le, take-at, drop-at, drop-drop, take-append-le, drop-append-le}
-use borrow.Rule.Slice.PartMut.{putMid, midOf, postOf, same-len-mid, drop-put}
+use borrow.Rule.Slice.PartMut.{putMid, midOf, postOf, same-len-mid}
 use Rattle.numbers.proofs.Parts.{mid-length}
 use Rattle.dsp.specs.Inside.{samplesAt}
 
-apart : (k j : ℕ) → (k ≡ j → ⊥) → (k < j) ⊎ (j < k)
-apart k j n =
+either-side : (k j : ℕ) → (k ≡ j → ⊥) → (k < j) ⊎ (j < k)
+either-side k j n =
     elim (decLt k j) [
       | yes p ↦ inl p
       | no p ↦ inr (omega arith)
@@ -32,7 +32,7 @@ module _ {X : Type 0} (a k : ℕ) (xs ys : List X) (room : a + k ≤ length xs) 
       let l : length (take a xs) ≡ a = length-take-le a xs (omega arith) in
       let d = length-drop b (take a xs) in
       let front : (zs : List X) → midOf b n (take a xs ++ zs) ≡ midOf b n (take a xs) =
-          λ zs. ap (take n) (drop-append-le b (take a xs) zs (omega arith)) ∙ take-append-le n (drop b (take a xs)) zs (omega arith) in
+      λ zs. ap (take n) (drop-append-le b (take a xs) zs (omega arith)) ∙ take-append-le n (drop b (take a xs)) zs (omega arith) in
       front _ ∙ sym (front (drop a xs)) ∙ ap (midOf b n) (take-append-drop a xs)
 
   behind : drop (a + k) (putMid a k xs ys) ≡ drop (a + k) xs
@@ -46,7 +46,7 @@ module _ {X : Type 0} (a k : ℕ) (xs ys : List X) (room : a + k ≤ length xs) 
   mid-behind b n h =
       let d : a + k + (b - (a + k)) ≡ b = omega arith in
       let back : (zs : List X) → drop b zs ≡ drop (b - (a + k)) (drop (a + k) zs) =
-          λ zs. sym (drop-drop (b - (a + k)) (a + k) zs ∙ ap (λ (i : ℕ). drop i zs) d) in
+      λ zs. sym (drop-drop (b - (a + k)) (a + k) zs ∙ ap (λ (i : ℕ). drop i zs) d) in
       ap (take n) (back (putMid a k xs ys) ∙ ap (drop (b - (a + k))) behind ∙ sym (back xs))
 
 pub samples-length : (j : ℕ) (store : List ℤ) → j * 16 + 16 ≤ length store → length (samplesAt j store) ≡ 16
@@ -68,7 +68,7 @@ module _ (j : ℕ) (store samples : List ℤ) (room : j * 16 + 16 ≤ length sto
       ⊎-elim
       (λ l. mid-before (j * 16) 16 store samples room e (k * 16) 16 (omega (arith, l)))
       (λ l. mid-behind (j * 16) 16 store samples room e (k * 16) 16 (omega (arith, l)))
-      (apart k j n)
+      (either-side k j n)
 
   -- where the parts before j are said, j's is too
   pub parts-more : (f : ℕ → List ℤ) → samples ≡ f j → ((k : ℕ) → k < j → samplesAt k store ≡ f k)

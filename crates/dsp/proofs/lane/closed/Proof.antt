@@ -2,9 +2,7 @@
 use borrow.Author.Needs.{needs}
 use native.Mathlib.Nat.{mod-eq-of-lt}
 use native.Mathlib.Omega.{arith}
-use mathlib.Core.Path.{_≡_, _∙_}
 use Prim.Native.Nat.{_+_, _*_}
-use lib.ListN.{getD, set}
 use lib.Seq.{getD-set-other}
 use mir.Syntax.{w8}
 use mir.Facts.{toZ-ofZ}

@@ -11,14 +11,13 @@ use lib.ListN.{getD}
 use lib.Seq.{getD-set-same, set-getD}
 use Rattle.numbers.specs.Unsigned.{wrapped}
 use Rattle.numbers.proofs.Choice.{chosen}
-use Rattle.dsp.specs.With.{moved, withSample}
+use Rattle.dsp.specs.With.{moved, withSample, withNibble}
 use Rattle.dsp.specs.Ram.{entryOf}
 use Rattle.dsp.specs.Envelope.{isOff}
 use Rattle.dsp.specs.Keys.{keyedOff, keyedOn}
 use Rattle.dsp.specs.Voice.{Sounding}
 use Rattle.dsp.specs.Lane.{polledOf}
-use Rattle.dsp.specs.Inside.{restored}
-use Rattle.dsp.specs.declared.brr.Brr.{Brr}
+use Rattle.dsp.specs.Inside.{asBrr, restored}
 use Rattle.dsp.specs.declared.voice.Voice.{Voice}
 use Rattle.dsp.proofs.lane.polled.Statement.{statement}
 use Rattle.dsp.proofs.lane.polled.Tie as tie
@@ -77,9 +76,8 @@ returns-3 c =
     let koff = rw (kon, or-false) at (s .pre .4) in
     let off = sym (c .before .before .before .off .ensures) ∙ c .before .before .if2 .left in
     let p = c .keyed-off .ensures in
-    let x = getD (a .currents .now) (a .j) (pos 0) in
-    let brr : List ℤ → ℕ → Brr = λ samples nibble. record { addr = a .f .addr; «nibble_idx» = nibble; prev1 = a .f .prev1; prev2 = a .f .prev2; «block_end» = a .f .«block_end»; «sample_buffer» = samples; «buffer_fill» = a .f .«buffer_fill» } in (
-      λ v samples endx e. rw (kon, koff, off) (λ i. sounding endx (moved v (p .0 i) (p .2 i) x (p .3 i) (c .before .released .ensures (v .adsr) i) (brr samples (p .1 i)))),
+    let x = getD (a .currents .now) (a .j) (pos 0) in (
+      λ v samples endx e. rw (kon, koff, off) (λ i. sounding endx (moved v (p .0 i) (p .2 i) x (p .3 i) (c .before .released .ensures (v .adsr) i) (withNibble (asBrr (a .p) (a .f) samples) (p .1 i)))),
       rw kon,
       rw kon (sym (set-getD (a .delays .now) (a .j) 0)),
       rw kon,

@@ -38,7 +38,7 @@ loop-again c =
       omega (arith, c .before .before .before .before .before .before .before .loop-test .taken),
       rw (part-span (l .n)) (store-length (l .n) (l .store) (p .last .0) r e ∙ l .inv .1),
       rw (part-span (l .n))
-      (parts-more (l .n) (l .store) (p .last .0) r e (λ j. getD voices j noVoice .brr .«sample_buffer») (p .ensures ∙ c .before .before .before .before .samples .ensures) (l .inv .2)),
+          (parts-more (l .n) (l .store) (p .last .0) r e (λ j. getD voices j noVoice .brr .«sample_buffer») (p .ensures ∙ c .before .before .before .before .samples .ensures) (l .inv .2)),
     )
 
 returns : tie.Need-returns Inv-loop μ-loop

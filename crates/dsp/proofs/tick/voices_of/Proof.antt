@@ -2,7 +2,7 @@
 use borrow.Author.Needs.{needs}
 use mathlib.Core.List.{List, [], _∷_, _++_}
 use mathlib.Core.Path.{_≡_, refl, ap, _∙_}
-use Prim.Native.Nat.{ℕ, _+_, _-_, _*_, _≤_, _<_}
+use Prim.Native.Nat.{ℕ, _+_, _-_, _*_, _≤_}
 use native.Mathlib.Omega.{arith}
 use native.Mathlib.Numerals.{add-one}
 use lib.IntN.{ℤ, pos}
@@ -10,7 +10,7 @@ use lib.ListN.{getD, length, take, drop}
 use mir.Syntax.{w16}
 use Rattle.numbers.proofs.Range.{landed}
 use Rattle.numbers.specs.Listed.{listed}
-use Rattle.numbers.proofs.Parts.{Written, unwritten, sized, stored, all-written}
+use Rattle.numbers.proofs.Parts.{Written, unwritten, stored, all-written}
 use Rattle.dsp.specs.Inside.{asVoice, noDial, noEnvelope, noPlay, noFeed, samplesAt, voicesIn}
 use Rattle.dsp.specs.declared.adsr.Envelope.{Envelope}
 use Rattle.dsp.specs.declared.lane.Dial.{Dial}

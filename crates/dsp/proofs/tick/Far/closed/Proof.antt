@@ -1,6 +1,6 @@
 -- The callees, with the read-backs removed.
 use borrow.Author.Needs.{needs}
-use mathlib.Core.Path.{_≡_, ap, _∙_}
+use mathlib.Core.Path.{ap, _∙_}
 use mir.Syntax.{w16}
 use Rattle.numbers.proofs.Range.{landed}
 use Rattle.dsp.specs.Sheet.{pairBytes}
