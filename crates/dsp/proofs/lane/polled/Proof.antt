@@ -1,4 +1,4 @@
--- By KON, and without it by the phase. A key-on overwrites what KOFF changed, so that the code leaves KOFF out there.
+-- By KON, and without it by the phase. Under KON the code leaves KOFF out, since the key-on overwrites it.
 use borrow.Author.Needs.{needs}
 use native.Mathlib.Nat.{mod-eq-of-lt}
 use mathlib.Core.Bool.{Bool, true, false, not, _&&_, and-false, or-false}
@@ -22,6 +22,7 @@ use Rattle.dsp.specs.declared.voice.Voice.{Voice}
 use Rattle.dsp.proofs.lane.polled.Statement.{statement}
 use Rattle.dsp.proofs.lane.polled.Tie as tie
 
+-- a key-on overwrites what KOFF changed
 on-over-off : (b : Bool) (dir : ℕ) (v : Voice) → keyedOn true dir (keyedOff b v) ≡ keyedOn true dir v
 unfolding keyedOn keyedOff
 on-over-off b dir v = chosen (λ (w : Voice). keyedOn true dir w ≡ keyedOn true dir v) (b && not (isOff (v .adsr .«envelope_phase»))) refl refl
@@ -30,14 +31,17 @@ abbrev sounding : Bool → Voice → Sounding
 sounding endx v = record { voice = v; endx = endx }
 
 -- the three records that the code makes anew
-anew : (c : tie.After-begun2) (v : Voice) (x : ℤ) (samples : List ℤ) → v .srcn ≡ c .before .before .before .before .before .before .before .before .before .before .before .args .srcn
+anew : (c : tie.After-begun2) (v : Voice) (x : ℤ) (samples : List ℤ)
+    → let a = c .before .before .before .before .before .before .before .before .before .before .before .args in
+    v .srcn ≡ a .srcn
     → restored (withSample v (pos 0)) (c .before .before .begun .result) (c .before .keyed-on .result) (c .begun2 .result) (pos 0) samples
-    ≡ keyedOn true (c .before .before .before .before .before .before .before .before .before .before .before .args .c .«dir_base») (restored (withSample v x) (c .before .before .before .before .before .before .before .before .before .before .before .args .e) (c .before .before .before .before .before .before .before .before .before .before .before .args .p) (c .before .before .before .before .before .before .before .before .before .before .before .args .f) x samples)
+    ≡ keyedOn true (a .c .«dir_base») (restored (withSample v x) (a .e) (a .p) (a .f) x samples)
 unfolding keyedOn
 anew c v x samples e =
+    let a = c .before .before .before .before .before .before .before .before .before .before .before .args in
     let p = c .before .keyed-on .ensures in
     let f = c .begun2 .ensures in
-    let addr = f .0 ∙ ap (λ (n : ℕ). wrapped (entryOf (c .before .before .before .before .before .before .before .before .before .before .before .args .c .«dir_base») n)) (sym e) in
+    let addr = f .0 ∙ ap (λ (n : ℕ). wrapped (entryOf (a .c .«dir_base») n)) (sym e) in
     λ i. moved v (p .0 i) (p .2 i) (pos 0) (p .3 i) (c .before .before .begun .ensures (v .adsr) i)
     (record { addr = addr i; «nibble_idx» = p .1 i; prev1 = f .2 i; prev2 = f .3 i; «block_end» = f .4 i; «sample_buffer» = samples; «buffer_fill» = f .1 i })
 
