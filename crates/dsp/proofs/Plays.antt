@@ -1,12 +1,13 @@
 -- Samples one by one: what a turn of the loop does to the definition; and what they keep of a block and a level.
 use mathlib.Core.Path.{_≡_, refl}
-use mathlib.Core.Bool.{true, false, not, _&&_}
+use mathlib.Core.Bool.{Bool, true, false, not, _&&_}
 use mathlib.Core.List.{List}
 use mathlib.Core.Logic.{inr}
 use Prim.Native.Nat.{ℕ, zero, suc, _+_, _-_, _≤_, _<_}
 use native.Mathlib.Omega.{arith}
 use borrow.Author.Tests.{eqb-false}
-use lib.ListN.{length}
+use lib.IntN.{ℤ, pos}
+use lib.ListN.{getD, length}
 use Rattle.numbers.specs.Choice.{_=?_}
 use Rattle.numbers.specs.Listed.{listed}
 use Rattle.dsp.specs.Machine.{noVoice}
@@ -14,7 +15,11 @@ use Rattle.dsp.specs.With.{withNibble}
 use Rattle.dsp.specs.Fit.{FitBrr}
 use Rattle.dsp.specs.Brr.{decodeBlock}
 use Rattle.dsp.specs.Voice.{Sounding, PitchSource, resolved, pushed, lastOf, takeOne, consume, idle, advanced, Stepped, shown, sounded}
+use Rattle.dsp.specs.Inside.{asSounding, pushedOn}
+use Rattle.dsp.specs.declared.adsr.Envelope.{Envelope}
 use Rattle.dsp.specs.declared.brr.Brr.{Brr}
+use Rattle.dsp.specs.declared.play.Feed.{Feed}
+use Rattle.dsp.specs.declared.play.Play.{Play}
 use Rattle.dsp.specs.declared.voice.Voice.{Voice}
 use Rattle.dsp.proofs.Moves.{KeptByPlay}
 
@@ -91,3 +96,28 @@ module _ (ram : List ℕ) (dir srcn : ℕ) (x : PitchSource) (envx : ℕ) where
   pub plays : (s : Sounding) → idle (s .voice) ≡ false → shown (advanced ram dir srcn x (resolved ram s)) ≡ sounded ram dir srcn x envx s
   unfolding sounded
   plays s h = rw h
+
+-- ---- samples of one block, one after another
+
+-- the play at the sample k, with another history
+abbrev pub heardTo : Play → ℕ → ℤ → ℤ → ℤ → ℤ → Play
+heardTo p k a b c d = record { «key_on» = p .«key_on»; «nibble_idx» = k; «pitch_counter» = p .«pitch_counter»; oldest = a; older = b; newer = c; newest = d }
+
+-- `left` samples on from q make what n make on from p
+abbrev pub Hearing : List ℤ → ℕ → Play → ℕ → Play → Type 0
+Hearing samples n p left q = (v : Voice) (e : Envelope) (f : Feed) (endx : Bool) → pushedOn left (asSounding v e q f samples endx) ≡ pushedOn n (asSounding v e p f samples endx)
+
+-- the history is the play's own
+pub none-heard : (samples : List ℤ) (n : ℕ) (p : Play) (left : ℕ) (a b c d : ℤ) → left ≡ n → a ≡ p .oldest → b ≡ p .older → c ≡ p .newer → d ≡ p .newest
+    → Hearing samples n p left (heardTo p (p .«nibble_idx») a b c d)
+none-heard samples n p left a b c d l e₁ e₂ e₃ e₄ = λ v y f endx i. pushedOn (l i) (asSounding v y (heardTo p (p .«nibble_idx») (e₁ i) (e₂ i) (e₃ i) (e₄ i)) f samples endx)
+
+pub one-heard : (samples : List ℤ) (n : ℕ) (p : Play) (left m k : ℕ) (a b c d x : ℤ) → left ≡ suc m → x ≡ getD samples k (pos 0) → Hearing samples n p left (heardTo p k a b c d)
+    → Hearing samples n p m (heardTo p (k + 1) b c d x)
+unfolding pushedOn pushed
+one-heard samples n p left m k a b c d x l e h = λ v y f endx. rw e (rw l at (h v y f endx))
+
+pub all-heard : (samples : List ℤ) (n : ℕ) (p : Play) (left : ℕ) (q : Play) → left ≡ 0 → Hearing samples n p left q
+    → (v : Voice) (e : Envelope) (f : Feed) (endx : Bool) → asSounding v e q f samples endx ≡ pushedOn n (asSounding v e p f samples endx)
+unfolding pushedOn
+all-heard samples n p left q l h v y f endx = rw l at (h v y f endx)
