@@ -1,22 +1,27 @@
 -- Samples one by one: what a turn of the loop does to the definition; and what they keep of a block and a level.
-use mathlib.Core.Path.{_≡_, refl}
-use mathlib.Core.Bool.{Bool, true, false, not, _&&_}
-use mathlib.Core.List.{List}
+use mathlib.Core.Path.{_≡_, _∙_, refl}
+use mathlib.Core.Bool.{Bool, true, false, not, _&&_, _||_}
+use mathlib.Core.List.{List, [], _∷_}
 use mathlib.Core.Logic.{inr}
 use Prim.Native.Nat.{ℕ, zero, suc, _+_, _-_, _≤_, _<_}
 use native.Mathlib.Omega.{arith}
 use borrow.Author.Tests.{eqb-false}
 use lib.IntN.{ℤ, pos}
 use lib.ListN.{getD, length}
+use lib.Signed.{mag}
+use mir.Syntax.{w16}
+use mir.Val.{toZ, ofZ}
 use Rattle.numbers.specs.Choice.{_=?_}
 use Rattle.numbers.specs.Listed.{listed}
+use Rattle.numbers.proofs.Range.{landed}
 use Rattle.dsp.specs.Machine.{noVoice}
-use Rattle.dsp.specs.With.{withNibble}
+use Rattle.dsp.specs.With.{moved, withNibble}
 use Rattle.dsp.specs.Fit.{FitBrr}
-use Rattle.dsp.specs.Brr.{decodeBlock}
-use Rattle.dsp.specs.Voice.{Sounding, PitchSource, resolved, pushed, lastOf, takeOne, consume, idle, advanced, Stepped, shown, sounded}
-use Rattle.dsp.specs.Inside.{asSounding, pushedOn}
+use Rattle.dsp.specs.Brr.{DecodedBlock, decodeBlock}
+use Rattle.dsp.specs.Voice.{Sounding, PitchSource, blockOf, resolved, pushed, lastOf, takeOne, consume, idle, advanced, Stepped, shown, sounded}
+use Rattle.dsp.specs.Inside.{asEnvelope, historyOf, asBrr, asSounding, asDecoded, pushedOn, goneOn}
 use Rattle.dsp.specs.declared.adsr.Envelope.{Envelope}
+use Rattle.dsp.specs.declared.brr.Block.{Block}
 use Rattle.dsp.specs.declared.brr.Brr.{Brr}
 use Rattle.dsp.specs.declared.play.Feed.{Feed}
 use Rattle.dsp.specs.declared.play.Play.{Play}
@@ -97,6 +102,32 @@ module _ (ram : List ℕ) (dir srcn : ℕ) (x : PitchSource) (envx : ℕ) where
   unfolding sounded
   plays s h = rw h
 
+-- ---- the records that the code makes anew
+
+-- a history that the code reads back from 16 bits
+pub history-read : (p : Play) → mag (p .oldest) < 0x8000 → mag (p .older) < 0x8000 → mag (p .newer) < 0x8000 → mag (p .newest) < 0x8000
+    → (toZ w16 (ofZ w16 (p .oldest)) ∷ toZ w16 (ofZ w16 (p .older)) ∷ toZ w16 (ofZ w16 (p .newer)) ∷ toZ w16 (ofZ w16 (p .newest)) ∷ []) ≡ historyOf p
+history-read p a b c d = λ i. landed w16 {z = p .oldest} a i ∷ landed w16 {z = p .older} b i ∷ landed w16 {z = p .newer} c i ∷ landed w16 {z = p .newest} d i ∷ []
+
+-- what a voice in its tick sees of a play
+pub same-play : (v : Voice) (e : Envelope) (f : Feed) (samples : List ℤ) (endx : Bool) (p q : Play) → p .«key_on» ≡ q .«key_on» → p .«nibble_idx» ≡ q .«nibble_idx»
+    → p .«pitch_counter» ≡ q .«pitch_counter» → historyOf p ≡ historyOf q → asSounding v e p f samples endx ≡ asSounding v e q f samples endx
+same-play v e f samples endx p q on k t h =
+    λ i. record { voice = moved v (on i) (t i) (v .«current_sample») (h i) (asEnvelope (v .adsr) e) (withNibble (asBrr p f samples) (k i)); endx = endx }
+
+-- a block at its first sample, whose two newest samples the code reads back
+pub fed-block : (p : Play) (samples : List ℤ) (b : Block) (d : DecodedBlock) (here a : ℕ) (x y : ℤ) → p .«nibble_idx» ≡ 0 → here ≡ a → x ≡ b .prev1 → y ≡ b .prev2
+    → asDecoded b samples ≡ d → asBrr p (record { addr = here; «buffer_fill» = 16; prev1 = x; prev2 = y; «block_end» = b .end }) samples ≡ blockOf a d
+fed-block p samples b d here a x y k e₁ e₂ e₃ e₄ =
+    (λ i. withNibble (blockOf here (record { samples = samples; prev1 = e₂ i; prev2 = e₃ i; end = b .end; loops = b .loops })) (k i)) ∙ (λ i. blockOf (e₁ i) (e₄ i))
+
+-- further samples behind a block change are taken, or dropped
+pub goes-on-taking : (first : Bool) (n : ℕ) (s : Sounding) → (first || s .voice .«key_on») ≡ true → pushedOn n s ≡ goneOn first n s
+goes-on-taking first n s h = rw h
+
+pub drops : (first : Bool) (n : ℕ) (s : Sounding) → (first || s .voice .«key_on») ≡ false → s ≡ goneOn first n s
+drops first n s h = rw h
+
 -- ---- samples of one block, one after another
 
 -- the play at the sample k, with another history
@@ -107,10 +138,10 @@ heardTo p k a b c d = record { «key_on» = p .«key_on»; «nibble_idx» = k; �
 abbrev pub Hearing : List ℤ → ℕ → Play → ℕ → Play → Type 0
 Hearing samples n p left q = (v : Voice) (e : Envelope) (f : Feed) (endx : Bool) → pushedOn left (asSounding v e q f samples endx) ≡ pushedOn n (asSounding v e p f samples endx)
 
--- the history is the play's own
-pub none-heard : (samples : List ℤ) (n : ℕ) (p : Play) (left : ℕ) (a b c d : ℤ) → left ≡ n → a ≡ p .oldest → b ≡ p .older → c ≡ p .newer → d ≡ p .newest
+-- nothing is taken yet
+pub none-heard : (samples : List ℤ) (n : ℕ) (p : Play) (left : ℕ) (a b c d : ℤ) → left ≡ n → (a ∷ b ∷ c ∷ d ∷ []) ≡ historyOf p
     → Hearing samples n p left (heardTo p (p .«nibble_idx») a b c d)
-none-heard samples n p left a b c d l e₁ e₂ e₃ e₄ = λ v y f endx i. pushedOn (l i) (asSounding v y (heardTo p (p .«nibble_idx») (e₁ i) (e₂ i) (e₃ i) (e₄ i)) f samples endx)
+none-heard samples n p left a b c d l h = λ v y f endx i. pushedOn (l i) (same-play v y f samples endx (heardTo p (p .«nibble_idx») a b c d) p refl refl refl h i)
 
 pub one-heard : (samples : List ℤ) (n : ℕ) (p : Play) (left m k : ℕ) (a b c d x : ℤ) → left ≡ suc m → x ≡ getD samples k (pos 0) → Hearing samples n p left (heardTo p k a b c d)
     → Hearing samples n p m (heardTo p (k + 1) b c d x)

@@ -5,7 +5,7 @@ use native.Mathlib.Omega.{arith}
 use mir.Syntax.{w16}
 use mir.Val.{toZ}
 use Rattle.numbers.proofs.Range.{landed}
-use Rattle.dsp.proofs.Plays.{heardTo, Hearing, none-heard, one-heard, all-heard}
+use Rattle.dsp.proofs.Plays.{history-read, heardTo, Hearing, none-heard, one-heard, all-heard}
 use Rattle.dsp.proofs.play.Play.heard.Statement.{statement}
 use Rattle.dsp.proofs.play.Play.heard.Tie as tie
 
@@ -18,7 +18,7 @@ abbrev μ-loop : tie.MeasureT-loop
 loop-holds : tie.Need-loop-holds Inv-loop μ-loop
 loop-holds c =
     let p = c .before .before .before .before .args .self in
-    (search needs, none-heard _ _ p _ _ _ _ _ (omega arith) (landed w16 {z = p .oldest} (search needs)) (landed w16 {z = p .older} (search needs)) (landed w16 {z = p .newer} (search needs)) (landed w16 {z = p .newest} (search needs)))
+    (search needs, none-heard _ _ p _ _ _ _ _ (omega arith) (history-read p (search needs) (search needs) (search needs) (search needs)))
 
 loop-again : tie.Need-loop-again Inv-loop μ-loop
 loop-again c =
