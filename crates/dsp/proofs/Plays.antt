@@ -5,14 +5,16 @@ use mathlib.Core.List.{List, [], _∷_}
 use mathlib.Core.Logic.{inr}
 use Prim.Native.Nat.{ℕ, zero, suc, _+_, _-_, _≤_, _<_}
 use native.Mathlib.Omega.{arith}
-use borrow.Author.Tests.{eqb-false}
+use borrow.Author.Tests.{eqb-false, leb-true}
 use lib.IntN.{ℤ, pos}
 use lib.ListN.{getD, length}
 use lib.Signed.{mag}
 use mir.Syntax.{w16}
 use mir.Val.{toZ, ofZ}
-use Rattle.numbers.specs.Choice.{_=?_}
+use Rattle.numbers.specs.Choice.{_≤?_, _=?_}
 use Rattle.numbers.specs.Listed.{listed}
+use Rattle.numbers.specs.Unsigned.{least}
+use Rattle.numbers.proofs.Choice.{tested}
 use Rattle.numbers.proofs.Range.{landed}
 use Rattle.dsp.specs.Machine.{noVoice}
 use Rattle.dsp.specs.With.{moved, withNibble}
@@ -27,6 +29,7 @@ use Rattle.dsp.specs.declared.play.Feed.{Feed}
 use Rattle.dsp.specs.declared.play.Play.{Play}
 use Rattle.dsp.specs.declared.voice.Voice.{Voice}
 use Rattle.dsp.proofs.Moves.{KeptByPlay}
+use Rattle.dsp.proofs.Samples.{movedTo}
 
 -- ---- the loop that consumes
 
@@ -104,16 +107,25 @@ module _ (ram : List ℕ) (dir srcn : ℕ) (x : PitchSource) (envx : ℕ) where
 
 -- ---- the records that the code makes anew
 
--- a history that the code reads back from 16 bits
-pub history-read : (p : Play) → mag (p .oldest) < 0x8000 → mag (p .older) < 0x8000 → mag (p .newer) < 0x8000 → mag (p .newest) < 0x8000
-    → (toZ w16 (ofZ w16 (p .oldest)) ∷ toZ w16 (ofZ w16 (p .older)) ∷ toZ w16 (ofZ w16 (p .newer)) ∷ toZ w16 (ofZ w16 (p .newest)) ∷ []) ≡ historyOf p
-history-read p a b c d = λ i. landed w16 {z = p .oldest} a i ∷ landed w16 {z = p .older} b i ∷ landed w16 {z = p .newer} c i ∷ landed w16 {z = p .newest} d i ∷ []
+-- a history of 16 bits, which the code reads back as it was
+pub record Sixteen (p : Play) : Type 0 where
+  pub oldest : mag (p .oldest) < 0x8000
+  pub older : mag (p .older) < 0x8000
+  pub newer : mag (p .newer) < 0x8000
+  pub newest : mag (p .newest) < 0x8000
 
--- what a voice in its tick sees of a play
+pub history-read : (p : Play) → Sixteen p → (toZ w16 (ofZ w16 (p .oldest)) ∷ toZ w16 (ofZ w16 (p .older)) ∷ toZ w16 (ofZ w16 (p .newer)) ∷ toZ w16 (ofZ w16 (p .newest)) ∷ []) ≡ historyOf p
+history-read p h = λ i. landed w16 {z = p .oldest} (h .oldest) i ∷ landed w16 {z = p .older} (h .older) i ∷ landed w16 {z = p .newer} (h .newer) i ∷ landed w16 {z = p .newest} (h .newest) i ∷ []
+
+-- what a voice in its tick sees of a play, at its own or another position
+pub play-at : (v : Voice) (e : Envelope) (f : Feed) (samples : List ℤ) (endx : Bool) (p q : Play) (position : ℕ) → p .«key_on» ≡ q .«key_on» → p .«nibble_idx» ≡ q .«nibble_idx»
+    → p .«pitch_counter» ≡ position → historyOf p ≡ historyOf q → asSounding v e p f samples endx ≡ movedTo position (asSounding v e q f samples endx)
+play-at v e f samples endx p q position on k t h =
+    λ i. record { voice = moved v (on i) (t i) (v .«current_sample») (h i) (asEnvelope (v .adsr) e) (withNibble (asBrr p f samples) (k i)); endx = endx }
+
 pub same-play : (v : Voice) (e : Envelope) (f : Feed) (samples : List ℤ) (endx : Bool) (p q : Play) → p .«key_on» ≡ q .«key_on» → p .«nibble_idx» ≡ q .«nibble_idx»
     → p .«pitch_counter» ≡ q .«pitch_counter» → historyOf p ≡ historyOf q → asSounding v e p f samples endx ≡ asSounding v e q f samples endx
-same-play v e f samples endx p q on k t h =
-    λ i. record { voice = moved v (on i) (t i) (v .«current_sample») (h i) (asEnvelope (v .adsr) e) (withNibble (asBrr p f samples) (k i)); endx = endx }
+same-play v e f samples endx p q on k t h = play-at v e f samples endx p q (q .«pitch_counter») on k t h
 
 -- a block at its first sample, whose two newest samples the code reads back
 pub fed-block : (p : Play) (samples : List ℤ) (b : Block) (d : DecodedBlock) (here a : ℕ) (x y : ℤ) → p .«nibble_idx» ≡ 0 → here ≡ a → x ≡ b .prev1 → y ≡ b .prev2
@@ -127,6 +139,10 @@ goes-on-taking first n s h = rw h
 
 pub drops : (first : Bool) (n : ℕ) (s : Sounding) → (first || s .voice .«key_on») ≡ false → s ≡ goneOn first n s
 drops first n s h = rw h
+
+-- n samples, of which the block has room for some
+pub left-over : (n room : ℕ) → n - least n room ≡ n - room
+left-over n room = tested (λ (m : ℕ). n - m ≡ n - room) (n ≤? room) (λ e. omega (arith, leb-true n room e)) (λ e. refl)
 
 -- ---- samples of one block, one after another
 

@@ -11,7 +11,7 @@ returns : tie.Need-returns
 returns c q on k t h v e f endx =
     let a = c .before .before .before .before .before .args in
     let p = a .self .play in
-    let g = history-read p (search needs) (search needs) (search needs) (search needs) in
+    let g = history-read p (search needs) in
     c .heard .ensures v e f endx
     ∙ ap (pushedOn (a .self .rest)) (same-play v e f _ endx _ q (sym on) (sym k) (sym t) (g ∙ sym h))
     ∙ goes-on-taking (a .first) (a .self .rest) _ (ap (λ b. a .first || b) on ∙ c .before .if1 .taken)
@@ -20,7 +20,7 @@ returns-2 : tie.Need-returns-2
 returns-2 c q on k t h v e f endx =
     let a = c .before .before .before .before .args in
     let p = a .self .play in
-    let g = history-read p (search needs) (search needs) (search needs) (search needs) in
+    let g = history-read p (search needs) in
     same-play v e f _ endx _ q (sym on) (sym k) (sym t) (g ∙ sym h)
     ∙ drops (a .first) (a .self .rest) _ (ap (λ b. a .first || b) on ∙ c .if1 .left)
 

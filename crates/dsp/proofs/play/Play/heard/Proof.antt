@@ -18,7 +18,7 @@ abbrev μ-loop : tie.MeasureT-loop
 loop-holds : tie.Need-loop-holds Inv-loop μ-loop
 loop-holds c =
     let p = c .before .before .before .before .args .self in
-    (search needs, none-heard _ _ p _ _ _ _ _ (omega arith) (history-read p (search needs) (search needs) (search needs) (search needs)))
+    (search needs, none-heard _ _ p _ _ _ _ _ (omega arith) (history-read p (search needs)))
 
 loop-again : tie.Need-loop-again Inv-loop μ-loop
 loop-again c =

@@ -11,7 +11,7 @@ use Rattle.dsp.proofs.play.Play.sounded.Tie as tie
 returns : tie.Need-returns
 returns c =
     let p = c .before .before .args .self in
-    landed w16 (c .interpolate .ok) ∙ c .interpolate .ensures ∙ ap (interpolateZ (p .«pitch_counter»)) (history-read p (search needs) (search needs) (search needs) (search needs))
+    landed w16 (c .interpolate .ok) ∙ c .interpolate .ensures ∙ ap (interpolateZ (p .«pitch_counter»)) (history-read p (search needs))
 
 pub sounded-spec : {M : Type 1} → statement M
 sounded-spec = tie.close (tie.spec (λ c κs. search needs) returns)
