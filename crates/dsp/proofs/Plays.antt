@@ -1,6 +1,6 @@
 -- Samples one by one: what a turn of the loop does to the definition; and what they keep of a block and a level.
 use mathlib.Core.Path.{_≡_, _∙_, refl}
-use mathlib.Core.Bool.{Bool, true, false, not, _&&_, _||_}
+use mathlib.Core.Bool.{Bool, true, false, not, _&&_, _||_, and-true, and-false}
 use mathlib.Core.List.{List, [], _∷_}
 use mathlib.Core.Logic.{inr}
 use Prim.Native.Nat.{ℕ, zero, suc, _+_, _-_, _≤_, _<_}
@@ -11,18 +11,21 @@ use lib.ListN.{getD, length}
 use lib.Signed.{mag}
 use mir.Syntax.{w16}
 use mir.Val.{toZ, ofZ}
-use Rattle.numbers.specs.Choice.{_≤?_, _=?_}
+use Rattle.numbers.specs.Choice.{if_then_else_, _≤?_, _=?_}
 use Rattle.numbers.specs.Listed.{listed}
 use Rattle.numbers.specs.Unsigned.{least}
 use Rattle.numbers.proofs.Choice.{tested}
 use Rattle.numbers.proofs.Range.{landed}
 use Rattle.dsp.specs.Machine.{noVoice}
-use Rattle.dsp.specs.With.{moved, withNibble}
+use Rattle.dsp.specs.With.{withState, moved, withBrr, withNibble}
 use Rattle.dsp.specs.Fit.{FitBrr}
+use Rattle.dsp.specs.Keys.{silenced}
 use Rattle.dsp.specs.Brr.{DecodedBlock, decodeBlock}
-use Rattle.dsp.specs.Voice.{Sounding, PitchSource, blockOf, resolved, pushed, lastOf, takeOne, consume, idle, advanced, Stepped, shown, sounded}
+use Rattle.dsp.specs.Voice.{Sounding, PitchSource, blockOf, filled, placed, decodedAt, resolved, pushed, lastOf, takeOne, consume, idle, advanced, Stepped, shown, sounded}
 use Rattle.dsp.specs.Inside.{asEnvelope, historyOf, asBrr, asSounding, asDecoded, pushedOn, goneOn}
+use Rattle.dsp.specs.declared.adsr.Adsr.{Adsr}
 use Rattle.dsp.specs.declared.adsr.Envelope.{Envelope}
+use Rattle.dsp.specs.declared.adsr.EnvelopePhase.the-variants.{Off}
 use Rattle.dsp.specs.declared.brr.Block.{Block}
 use Rattle.dsp.specs.declared.brr.Brr.{Brr}
 use Rattle.dsp.specs.declared.play.Feed.{Feed}
@@ -132,6 +135,42 @@ pub fed-block : (p : Play) (samples : List ℤ) (b : Block) (d : DecodedBlock) (
     → asDecoded b samples ≡ d → asBrr p (record { addr = here; «buffer_fill» = 16; prev1 = x; prev2 = y; «block_end» = b .end }) samples ≡ blockOf a d
 fed-block p samples b d here a x y k e₁ e₂ e₃ e₄ =
     (λ i. withNibble (blockOf here (record { samples = samples; prev1 = e₂ i; prev2 = e₃ i; end = b .end; loops = b .loops })) (k i)) ∙ (λ i. blockOf (e₁ i) (e₄ i))
+
+-- the play at the first sample of a block that mutes it or does not
+abbrev pub anew : Bool → Play → Play
+anew mutes p =
+    record {
+      «key_on» = p .«key_on» && not mutes;
+      «nibble_idx» = 0;
+      «pitch_counter» = p .«pitch_counter»;
+      oldest = p .oldest;
+      older = p .older;
+      newer = p .newer;
+      newest = p .newest;
+    }
+
+-- an envelope's state behind that block
+abbrev pub cutBy : Bool → Envelope → Adsr → Adsr
+cutBy mutes e a = if mutes then withState a 0 Off (e .counter) else asEnvelope a e
+
+module _ (v : Voice) (e y : Envelope) (p : Play) (f g : Feed) (samples fresh : List ℤ) (endx : Bool) where
+  abbrev before : Voice
+  before = asSounding v e p f samples endx .voice
+
+  anew-filled : (mutes : Bool) (b : Brr) → asEnvelope (v .adsr) y ≡ cutBy mutes e (v .adsr) → asBrr (anew mutes p) g fresh ≡ b
+      → asSounding v y (anew mutes p) g fresh (endx || g .«block_end»)
+      ≡ record { voice = if mutes then silenced (withBrr before (before .history) b) else withBrr before (before .history) b; endx = endx || b .«block_end» }
+  anew-filled true b c h = λ i. record { voice = moved v (and-false (p .«key_on») i) (p .«pitch_counter») (v .«current_sample») (historyOf p) (c i) (h i); endx = endx || h i .«block_end» }
+  anew-filled false b c h = λ i. record { voice = moved v (and-true (p .«key_on») i) (p .«pitch_counter») (v .«current_sample») (historyOf p) (c i) (h i); endx = endx || h i .«block_end» }
+
+  -- with the block's samples in the buffer, the play anew and the envelope cut or not, the block is decoded
+  pub block-changed : (ram : List ℕ) (a : ℕ) (mutes : Bool) → let d = decodeBlock ram a (f .prev1) (f .prev2) in
+      mutes ≡ (d .end && not (d .loops)) → asEnvelope (v .adsr) y ≡ cutBy mutes e (v .adsr) → asBrr (anew mutes p) g fresh ≡ blockOf a d
+      → asSounding v y (anew mutes p) g fresh (endx || g .«block_end») ≡ decodedAt ram a (asSounding v e p f samples endx)
+  unfolding decodedAt placed
+  block-changed ram a mutes m c h =
+      let d = decodeBlock ram a (f .prev1) (f .prev2) in
+      anew-filled mutes (blockOf a d) c h ∙ (λ i. record { voice = if m i then silenced (filled a d before) else filled a d before; endx = endx || d .end })
 
 -- further samples behind a block change are taken, or dropped
 pub goes-on-taking : (first : Bool) (n : ℕ) (s : Sounding) → (first || s .voice .«key_on») ≡ true → pushedOn n s ≡ goneOn first n s
