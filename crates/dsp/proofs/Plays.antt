@@ -1,4 +1,5 @@
--- Samples one by one: what a turn of the loop does to the definition; and what they keep of a block and a level.
+-- A play: the records that the code makes anew, a block change, samples of one block one after another; what samples one by one do to the
+-- definition, and what they keep of a block and a level.
 use mathlib.Core.Path.{_≡_, _∙_, refl}
 use mathlib.Core.Bool.{Bool, true, false, not, _&&_, _||_, and-true, and-false}
 use mathlib.Core.List.{List, [], _∷_}
@@ -136,6 +137,8 @@ pub fed-block : (p : Play) (samples : List ℤ) (b : Block) (d : DecodedBlock) (
 fed-block p samples b d here a x y k e₁ e₂ e₃ e₄ =
     (λ i. withNibble (blockOf here (record { samples = samples; prev1 = e₂ i; prev2 = e₃ i; end = b .end; loops = b .loops })) (k i)) ∙ (λ i. blockOf (e₁ i) (e₄ i))
 
+-- ---- a block change
+
 -- the play at the first sample of a block that mutes it or does not
 abbrev pub anew : Bool → Play → Play
 anew mutes p =
@@ -157,11 +160,16 @@ module _ (v : Voice) (e y : Envelope) (p : Play) (f g : Feed) (samples fresh : L
   abbrev before : Voice
   before = asSounding v e p f samples endx .voice
 
+  anew-is : (mutes on : Bool) (a : Adsr) (b : Brr) → (p .«key_on» && not mutes) ≡ on → asEnvelope (v .adsr) y ≡ a → asBrr (anew mutes p) g fresh ≡ b
+      → asSounding v y (anew mutes p) g fresh (endx || g .«block_end»)
+      ≡ record { voice = moved v on (p .«pitch_counter») (v .«current_sample») (historyOf p) a b; endx = endx || b .«block_end» }
+  anew-is mutes on a b k c h = λ i. record { voice = moved v (k i) (p .«pitch_counter») (v .«current_sample») (historyOf p) (c i) (h i); endx = endx || h i .«block_end» }
+
   anew-filled : (mutes : Bool) (b : Brr) → asEnvelope (v .adsr) y ≡ cutBy mutes e (v .adsr) → asBrr (anew mutes p) g fresh ≡ b
       → asSounding v y (anew mutes p) g fresh (endx || g .«block_end»)
       ≡ record { voice = if mutes then silenced (withBrr before (before .history) b) else withBrr before (before .history) b; endx = endx || b .«block_end» }
-  anew-filled true b c h = λ i. record { voice = moved v (and-false (p .«key_on») i) (p .«pitch_counter») (v .«current_sample») (historyOf p) (c i) (h i); endx = endx || h i .«block_end» }
-  anew-filled false b c h = λ i. record { voice = moved v (and-true (p .«key_on») i) (p .«pitch_counter») (v .«current_sample») (historyOf p) (c i) (h i); endx = endx || h i .«block_end» }
+  anew-filled true b c h = anew-is true false (cutBy true e (v .adsr)) b (and-false (p .«key_on»)) c h
+  anew-filled false b c h = anew-is false (p .«key_on») (cutBy false e (v .adsr)) b (and-true (p .«key_on»)) c h
 
   -- with the block's samples in the buffer, the play anew and the envelope cut or not, the block is decoded
   pub block-changed : (ram : List ℕ) (a : ℕ) (mutes : Bool) → let d = decodeBlock ram a (f .prev1) (f .prev2) in
@@ -172,7 +180,7 @@ module _ (v : Voice) (e y : Envelope) (p : Play) (f g : Feed) (samples fresh : L
       let d = decodeBlock ram a (f .prev1) (f .prev2) in
       anew-filled mutes (blockOf a d) c h ∙ (λ i. record { voice = if m i then silenced (filled a d before) else filled a d before; endx = endx || d .end })
 
--- further samples behind a block change are taken, or dropped
+-- the tick's further samples are taken, or dropped
 pub goes-on-taking : (first : Bool) (n : ℕ) (s : Sounding) → (first || s .voice .«key_on») ≡ true → pushedOn n s ≡ goneOn first n s
 goes-on-taking first n s h = rw h
 
