@@ -19,18 +19,19 @@ use Rattle.numbers.proofs.Bits.{with-own, with-twice, bit-here}
 use Rattle.dsp.specs.With.{withSample}
 use Rattle.dsp.specs.Keys.{keyedOff, keyedOn, polledEndx, polledDelay}
 use Rattle.dsp.specs.Interpolation.{interpolateZ}
-use Rattle.dsp.specs.Voice.{Sounding, PitchSource, idle, interpolated, Stepped, shown, voiceStep}
-use Rattle.dsp.specs.Mix.{scaledOutput}
+use Rattle.dsp.specs.Voice.{Sounding, PitchSource, decodedAt, idle, interpolated, voiceStep}
+use Rattle.dsp.specs.Mix.{scaledOutput, outputOf}
 use Rattle.dsp.specs.Sheet.{laneBytes}
 use Rattle.dsp.specs.Lane.{Shared, polledOf, Waiting, letStep, waited, sourceOf, waitedOf, noised, cellAfter, cellOf, ownCell, putEndx, putBytes, Sums, added, Landed, turned}
-use Rattle.dsp.specs.Inside.{historyOf, asVoice, asSounding, begunOf, dueOf, restLeft, blockAddress, goneOn, samplesAt, noDial, noEnvelope, noPlay, noFeed}
+use Rattle.dsp.specs.Inside.{historyOf, asBrr, asVoice, asSounding, begunOf, dueOf, restLeft, blockAddress, goneOn, samplesAt, noDial, noEnvelope, noPlay, noFeed}
 use Rattle.dsp.specs.declared.adsr.Envelope.{Envelope}
 use Rattle.dsp.specs.declared.lane.Dial.{Dial}
 use Rattle.dsp.specs.declared.play.Feed.{Feed}
 use Rattle.dsp.specs.declared.play.Play.{Play}
 use Rattle.dsp.specs.declared.voice.Voice.{Voice}
-use Rattle.dsp.proofs.Apart.{Arrays, arrays, Sized, voiceAt, Beside, besides}
+use Rattle.dsp.proofs.Apart.{Arrays, arrays, Sized, voiceAt, voicesFrom, Beside, besides, beside-voices}
 use Rattle.dsp.proofs.Samples.{onceOf}
+use Rattle.dsp.proofs.Store.{store-length, samples-here, samples-there}
 use Rattle.dsp.proofs.Steps.{Ticks, idle-step, sounding-step, in-block, past-block}
 
 -- ---- the ENDX bit
@@ -265,3 +266,105 @@ module _ (dials : List Dial) (c : Shared) (j : ℕ) (a₀ : Arrays) (delays₀ b
             (besides dials j a took rose-beside took-beside (λ k n. refl) (λ k n. refl) (λ k n. refl))
             rose-at (getD-set-same (a .plays) j p noPlay (omega (arith, z .plays))) refl refl refl (q .stands .bytes-are)
             (in-block ram (c .dir) (getD bytes₀ (j * 16 + 4) 0) source (ticking h) _ begun d)
+
+        -- z: the block that follows, new: its samples
+        pub past-its-block : (k : Envelope) (r : Play) (z : Feed) (new : List ℤ) (bytes′ : List ℕ) (rest : ℕ) → length new ≡ 16 → dueOf source (ticking h) ≡ true → rest ≡ restLeft source (ticking h)
+            → asSounding (voiceAt dials a j) k r z new (endx || z .«block_end»)
+            ≡ goneOn (getD (a .feeds) j noFeed .«buffer_fill» =? 0) rest
+            (decodedAt ram (blockAddress ram (c .dir) (getD bytes (j * 16 + 4) 0) (asBrr p (getD (a .feeds) j noFeed) (samplesAt j (a .store))))
+            (asSounding (voiceAt dials a j) h p (getD (a .feeds) j noFeed) (samplesAt j (a .store)) endx))
+            → bytes′ ≡ (if z .«block_end» then putEndx j true bytes else bytes)
+            → Stands dials j a₀ bytes₀ (onceOf ram (c .dir) (getD bytes₀ (j * 16 + 4) 0) source (ticking h))
+            (arrays (set (took .envelopes) j k) (set (took .plays) j r) (set (took .feeds) j z) (took .currents) (putMid (j * 16) 16 (took .store) new)) bytes′
+        past-its-block k r z new bytes′ rest ln d er ec eb =
+            let y = q .stands .sized in
+            let b = arrays (set (took .envelopes) j k) (set (took .plays) j r) (set (took .feeds) j z) (took .currents) (putMid (j * 16) 16 (took .store) new) in
+            let room : j * 16 + 16 ≤ length (a .store) = omega (arith, y .store) in
+            let le : length (took .envelopes) ≡ 8 = simp length-set (y .envelopes) in
+            let lp : length (took .plays) ≡ 8 = simp length-set (y .plays) in
+            let n = byte-there (j * 16 + 4) (λ (w : j * 16 + 4 ≡ 0x7C). omega arith) in
+            stood b bytes′ k r z new (endx || z .«block_end») _
+            (record { envelopes = simp length-set (y .envelopes); plays = simp length-set (y .plays); feeds = simp length-set (y .feeds); currents = y .currents; store = store-length j (a .store) new room ln ∙ y .store })
+            (besides dials j a b (λ m ne. getD-set-other (took .envelopes) j m k noEnvelope ne ∙ rose-beside m ne) (λ m ne. getD-set-other (took .plays) j m r noPlay ne ∙ took-beside m ne) (λ m ne. getD-set-other (a .feeds) j m z noFeed ne) (λ m ne. refl) (λ m ne. samples-there j (a .store) new room ln m ne))
+            (getD-set-same (took .envelopes) j k noEnvelope (omega (arith, le))) (getD-set-same (took .plays) j r noPlay (omega (arith, lp))) (getD-set-same (a .feeds) j z noFeed (omega (arith, y .feeds))) refl (samples-here j (a .store) new room ln)
+            (eb ∙ ap (λ (l : List ℕ). if z .«block_end» then putEndx j true l else l) (q .stands .bytes-are) ∙ ended-endx j (z .«block_end») endx bytes₀ lb)
+            (past-block ram (c .dir) (getD bytes₀ (j * 16 + 4) 0) source (ticking h) _ begun rest _ d er
+            (ec ∙ ap (λ (m : ℕ). goneOn (getD (a .feeds) j noFeed .«buffer_fill» =? 0) rest
+            (decodedAt ram (blockAddress ram (c .dir) m (asBrr p (getD (a .feeds) j noFeed) (samplesAt j (a .store)))) (asSounding (voiceAt dials a j) h p (getD (a .feeds) j noFeed) (samplesAt j (a .store)) endx))) n))
+
+-- ---- where it lands: NON, the output, the bytes, the sums and the lane of the sheet
+
+module _ (dials : List Dial) (c : Shared) (ram : List ℕ) (j : ℕ) (a₀ : Arrays) (delays₀ bytes₀ : List ℕ) (sums : Sums) (a : Arrays) (delays bytes : List ℕ) (lt : j < 8) (lb : length bytes₀ ≡ 128)
+    (s : Waited dials j a₀ delays₀ bytes₀ (waitAt dials c ram j (sums .prev) a₀ delays₀ bytes₀) a delays bytes) where
+  abbrev left : Waiting
+  left = waitAt dials c ram j (sums .prev) a₀ delays₀ bytes₀
+
+  abbrev bytesNow : List ℕ
+  bytesNow = putEndx j (left .sounding .endx) bytes₀
+
+  envx-there : getD bytes (j * 16 + 8) 0 ≡ left .envx
+  envx-there =
+      ap (λ (l : List ℕ). getD l (j * 16 + 8) 0) (s .bytes-are)
+      ∙ getD-set-same bytesNow (j * 16 + 8) (left .envx) 0 (let n : length bytesNow ≡ 128 = simp length-set lb in omega arith)
+
+  endx-there : endxOf j bytes ≡ left .sounding .endx
+  endx-there =
+      ap (λ (l : List ℕ). bit (getD l 0x7C 0) j) (s .bytes-are)
+      ∙ ap (λ (n : ℕ). bit n j) (getD-set-other bytesNow (j * 16 + 8) 0x7C (left .envx) 0 (λ (e : 0x7C ≡ j * 16 + 8). omega arith) ∙ getD-set-same bytes₀ 0x7C _ 0 (omega arith))
+      ∙ bit-here (getD bytes₀ 0x7C 0) j (left .sounding .endx)
+
+  -- the code writes the ENDX bit first, the definition last
+  bytes-there : (n : ℕ) → set bytes (j * 16 + 9) n ≡ putEndx j (left .sounding .endx) (set (set bytes₀ (j * 16 + 8) (left .envx)) (j * 16 + 9) n)
+  bytes-there n =
+      let b = withBit (getD bytes₀ 0x7C 0) j (left .sounding .endx) in
+      let p : j * 16 + 8 ≢ 0x7C = λ (e : j * 16 + 8 ≡ 0x7C). omega arith in
+      let r : j * 16 + 9 ≢ 0x7C = λ (e : j * 16 + 9 ≡ 0x7C). omega arith in
+      let p′ : 0x7C ≢ j * 16 + 8 = λ (e : 0x7C ≡ j * 16 + 8). omega arith in
+      let r′ : 0x7C ≢ j * 16 + 9 = λ (e : 0x7C ≡ j * 16 + 9). omega arith in
+      let l = set (set bytes₀ (j * 16 + 8) (left .envx)) (j * 16 + 9) n in
+      let old : getD l 0x7C 0 ≡ getD bytes₀ 0x7C 0 = getD-set-other (set bytes₀ (j * 16 + 8) (left .envx)) (j * 16 + 9) 0x7C n 0 r′ ∙ getD-set-other bytes₀ (j * 16 + 8) 0x7C (left .envx) 0 p′ in
+      ap (λ (m : List ℕ). set m (j * 16 + 9) n) (s .bytes-are ∙ sym (set-comm bytes₀ (j * 16 + 8) 0x7C (left .envx) b p))
+      ∙ sym (set-comm (set bytes₀ (j * 16 + 8) (left .envx)) (j * 16 + 9) 0x7C n b r)
+      ∙ ap (λ (m : ℕ). set l 0x7C (withBit m j (left .sounding .endx))) (sym old)
+
+  -- x: its sample, NON heeded
+  abbrev pub sampleNow : ℤ
+  sampleNow = if bit (c .non) j then c .noise else getD (a .currents) j (pos 0)
+
+  abbrev pub settledIn : Arrays
+  settledIn = arrays (a .envelopes) (a .plays) (a .feeds) (set (a .currents) j sampleNow) (a .store)
+
+  pub settled-sized : Sized settledIn
+  settled-sized = let z = s .sized in record { envelopes = z .envelopes; plays = z .plays; feeds = z .feeds; currents = simp length-set (z .currents); store = z .store }
+
+  pub voices-now : voicesFrom dials settledIn ≡ set (voicesFrom dials a₀) j (voiceAt dials settledIn j)
+  voices-now =
+      beside-voices dials j a₀ settledIn (voiceAt dials settledIn j) lt
+      (λ k n. besides dials j a settledIn (λ k n. refl) (λ k n. refl) (λ k n. refl) (λ k n. getD-set-other (a .currents) j k sampleNow (pos 0) n) (λ k n. refl) k n ∙ s .others k n)
+      refl
+
+  pub lands : (out : ℤ) (sums′ : Sums) (bytes′ slot slot′ : List ℕ)
+      → out ≡ scaledOutput (getD (a .envelopes) j noEnvelope .phase) (getD (a .envelopes) j noEnvelope .level) sampleNow
+      → bytes′ ≡ set bytes (j * 16 + 9) (highZ out)
+      → slot′ ≡ laneBytes out (getD bytes (j * 16 + 8) 0) (endxOf j bytes)
+      → sums′ ≡ added (bit (c .eon) j) out (getD dials j noDial .«left_vol») (getD dials j noDial .«right_vol») sums
+      → _≡_ {A = Landed} (record { voice = voiceAt dials settledIn j; delay = left .delay; sums = sums′; bytes = bytes′; slot = slot′ })
+      (turned true c ram j (voiceAt dials a₀ j) (getD delays₀ j 0) sums bytes₀ slot)
+  unfolding turned ownCell cellOf cellAfter noised putBytes
+  lands out sums′ bytes′ slot slot′ eo eb es em =
+      let v : Voice = asVoice (getD dials j noDial) (getD (a .envelopes) j noEnvelope) (getD (a .plays) j noPlay) (getD (a .feeds) j noFeed) sampleNow (samplesAt j (a .store)) in
+      let ev : voiceAt dials settledIn j ≡ v =
+      (λ i. asVoice (getD dials j noDial) (getD (a .envelopes) j noEnvelope) (getD (a .plays) j noPlay) (getD (a .feeds) j noFeed) (getD-set-same (a .currents) j sampleNow (pos 0) (omega (arith, s .sized .currents)) i) (samplesAt j (a .store))) in
+      let ew : v ≡ noised (bit (c .non) j) (c .noise) (left .sounding .voice) = ap (noised (bit (c .non) j) (c .noise)) (s .voice) in
+      let f : Voice → ℤ → Landed =
+      λ (w : Voice) (x : ℤ).
+      record {
+        voice = w;
+        delay = left .delay;
+        sums = added (bit (c .eon) j) x (w .«left_vol») (w .«right_vol») sums;
+        bytes = putBytes j (left .envx) x (left .sounding .endx) bytes₀;
+        slot = laneBytes x (left .envx) (left .sounding .endx);
+      } in
+      let start : _≡_ {A = Landed} (record { voice = voiceAt dials settledIn j; delay = left .delay; sums = sums′; bytes = bytes′; slot = slot′ }) (f v out) =
+      (λ i. record { voice = ev i; delay = left .delay; sums = em i; bytes = (eb ∙ bytes-there (highZ out)) i; slot = (es ∙ (λ k. laneBytes out (envx-there k) (endx-there k))) i }) in
+      start ∙ ap (f v) eo ∙ (λ i. f (ew i) (outputOf (ew i)))
