@@ -10,26 +10,29 @@ use lib.IntN.{ℤ, pos}
 use lib.ListN.{getD, set, length, length-set}
 use lib.Seq.{getD-set-same, getD-set-other, set-getD, set-set, set-comm}
 use borrow.Author.Tests.{eq-eqb, ne-eqb}
-use borrow.Rule.Slice.PartMut.{putMid}
+use borrow.Rule.Slice.PartMut.{putMid, midOf}
 use Rattle.numbers.specs.Choice.{if_then_else_, _=?_}
 use Rattle.numbers.specs.Bits.{bit, withBit}
 use Rattle.numbers.specs.Signed.{highZ}
 use Rattle.numbers.proofs.Choice.{chosen}
 use Rattle.numbers.proofs.Bits.{with-own, with-twice, bit-here}
 use Rattle.dsp.specs.With.{withSample}
+use Rattle.dsp.specs.Machine.{noVoice}
 use Rattle.dsp.specs.Keys.{keyedOff, keyedOn, polledEndx, polledDelay}
 use Rattle.dsp.specs.Interpolation.{interpolateZ}
 use Rattle.dsp.specs.Voice.{Sounding, PitchSource, decodedAt, idle, interpolated, voiceStep}
 use Rattle.dsp.specs.Mix.{scaledOutput, outputOf}
 use Rattle.dsp.specs.Sheet.{laneBytes}
 use Rattle.dsp.specs.Lane.{Shared, polledOf, Waiting, letStep, waited, sourceOf, waitedOf, noised, cellAfter, cellOf, ownCell, putEndx, putBytes, Sums, added, Landed, turned}
+use Rattle.dsp.specs.Tick.{Round}
 use Rattle.dsp.specs.Inside.{historyOf, asBrr, asVoice, asSounding, begunOf, dueOf, restLeft, blockAddress, goneOn, samplesAt, noDial, noEnvelope, noPlay, noFeed}
 use Rattle.dsp.specs.declared.adsr.Envelope.{Envelope}
 use Rattle.dsp.specs.declared.lane.Dial.{Dial}
 use Rattle.dsp.specs.declared.play.Feed.{Feed}
 use Rattle.dsp.specs.declared.play.Play.{Play}
 use Rattle.dsp.specs.declared.voice.Voice.{Voice}
-use Rattle.dsp.proofs.Apart.{Arrays, arrays, Sized, voiceAt, voicesFrom, Beside, besides, beside-voices}
+use Rattle.dsp.proofs.Apart.{Arrays, arrays, Sized, voiceAt, voicesFrom, voice-at, Beside, besides, beside-voices}
+use Rattle.dsp.proofs.Drives.{Lanes, lane-on}
 use Rattle.dsp.proofs.Samples.{onceOf}
 use Rattle.dsp.proofs.Store.{store-length, samples-here, samples-there}
 use Rattle.dsp.proofs.Steps.{Ticks, idle-step, sounding-step, in-block, past-block}
@@ -294,6 +297,13 @@ module _ (dials : List Dial) (c : Shared) (j : ℕ) (a₀ : Arrays) (delays₀ b
 
 -- ---- where it lands: NON, the output, the bytes, the sums and the lane of the sheet
 
+-- its sample, NON heeded
+abbrev pub sampleNow : Shared → ℕ → Arrays → ℤ
+sampleNow c j a = if bit (c .non) j then c .noise else getD (a .currents) j (pos 0)
+
+abbrev pub settledIn : Shared → ℕ → Arrays → Arrays
+settledIn c j a = arrays (a .envelopes) (a .plays) (a .feeds) (set (a .currents) j (sampleNow c j a)) (a .store)
+
 module _ (dials : List Dial) (c : Shared) (ram : List ℕ) (j : ℕ) (a₀ : Arrays) (delays₀ bytes₀ : List ℕ) (sums : Sums) (a : Arrays) (delays bytes : List ℕ) (lt : j < 8) (lb : length bytes₀ ≡ 128)
     (s : Waited dials j a₀ delays₀ bytes₀ (waitAt dials c ram j (sums .prev) a₀ delays₀ bytes₀) a delays bytes) where
   abbrev left : Waiting
@@ -327,34 +337,27 @@ module _ (dials : List Dial) (c : Shared) (ram : List ℕ) (j : ℕ) (a₀ : Arr
       ∙ sym (set-comm (set bytes₀ (j * 16 + 8) (left .envx)) (j * 16 + 9) 0x7C n b r)
       ∙ ap (λ (m : ℕ). set l 0x7C (withBit m j (left .sounding .endx))) (sym old)
 
-  -- x: its sample, NON heeded
-  abbrev pub sampleNow : ℤ
-  sampleNow = if bit (c .non) j then c .noise else getD (a .currents) j (pos 0)
-
-  abbrev pub settledIn : Arrays
-  settledIn = arrays (a .envelopes) (a .plays) (a .feeds) (set (a .currents) j sampleNow) (a .store)
-
-  pub settled-sized : Sized settledIn
+  pub settled-sized : Sized (settledIn c j a)
   settled-sized = let z = s .sized in record { envelopes = z .envelopes; plays = z .plays; feeds = z .feeds; currents = simp length-set (z .currents); store = z .store }
 
-  pub voices-now : voicesFrom dials settledIn ≡ set (voicesFrom dials a₀) j (voiceAt dials settledIn j)
+  pub voices-now : voicesFrom dials (settledIn c j a) ≡ set (voicesFrom dials a₀) j (voiceAt dials (settledIn c j a) j)
   voices-now =
-      beside-voices dials j a₀ settledIn (voiceAt dials settledIn j) lt
-      (λ k n. besides dials j a settledIn (λ k n. refl) (λ k n. refl) (λ k n. refl) (λ k n. getD-set-other (a .currents) j k sampleNow (pos 0) n) (λ k n. refl) k n ∙ s .others k n)
+      beside-voices dials j a₀ (settledIn c j a) (voiceAt dials (settledIn c j a) j) lt
+      (λ k n. besides dials j a (settledIn c j a) (λ k n. refl) (λ k n. refl) (λ k n. refl) (λ k n. getD-set-other (a .currents) j k (sampleNow c j a) (pos 0) n) (λ k n. refl) k n ∙ s .others k n)
       refl
 
   pub lands : (out : ℤ) (sums′ : Sums) (bytes′ slot slot′ : List ℕ)
-      → out ≡ scaledOutput (getD (a .envelopes) j noEnvelope .phase) (getD (a .envelopes) j noEnvelope .level) sampleNow
+      → out ≡ scaledOutput (getD (a .envelopes) j noEnvelope .phase) (getD (a .envelopes) j noEnvelope .level) (sampleNow c j a)
       → bytes′ ≡ set bytes (j * 16 + 9) (highZ out)
       → slot′ ≡ laneBytes out (getD bytes (j * 16 + 8) 0) (endxOf j bytes)
       → sums′ ≡ added (bit (c .eon) j) out (getD dials j noDial .«left_vol») (getD dials j noDial .«right_vol») sums
-      → _≡_ {A = Landed} (record { voice = voiceAt dials settledIn j; delay = left .delay; sums = sums′; bytes = bytes′; slot = slot′ })
+      → _≡_ {A = Landed} (record { voice = voiceAt dials (settledIn c j a) j; delay = left .delay; sums = sums′; bytes = bytes′; slot = slot′ })
       (turned true c ram j (voiceAt dials a₀ j) (getD delays₀ j 0) sums bytes₀ slot)
   unfolding turned ownCell cellOf cellAfter noised putBytes
   lands out sums′ bytes′ slot slot′ eo eb es em =
-      let v : Voice = asVoice (getD dials j noDial) (getD (a .envelopes) j noEnvelope) (getD (a .plays) j noPlay) (getD (a .feeds) j noFeed) sampleNow (samplesAt j (a .store)) in
-      let ev : voiceAt dials settledIn j ≡ v =
-      (λ i. asVoice (getD dials j noDial) (getD (a .envelopes) j noEnvelope) (getD (a .plays) j noPlay) (getD (a .feeds) j noFeed) (getD-set-same (a .currents) j sampleNow (pos 0) (omega (arith, s .sized .currents)) i) (samplesAt j (a .store))) in
+      let v : Voice = asVoice (getD dials j noDial) (getD (a .envelopes) j noEnvelope) (getD (a .plays) j noPlay) (getD (a .feeds) j noFeed) (sampleNow c j a) (samplesAt j (a .store)) in
+      let ev : voiceAt dials (settledIn c j a) j ≡ v =
+      (λ i. asVoice (getD dials j noDial) (getD (a .envelopes) j noEnvelope) (getD (a .plays) j noPlay) (getD (a .feeds) j noFeed) (getD-set-same (a .currents) j (sampleNow c j a) (pos 0) (omega (arith, s .sized .currents)) i) (samplesAt j (a .store))) in
       let ew : v ≡ noised (bit (c .non) j) (c .noise) (left .sounding .voice) = ap (noised (bit (c .non) j) (c .noise)) (s .voice) in
       let f : Voice → ℤ → Landed =
       λ (w : Voice) (x : ℤ).
@@ -365,6 +368,37 @@ module _ (dials : List Dial) (c : Shared) (ram : List ℕ) (j : ℕ) (a₀ : Arr
         bytes = putBytes j (left .envx) x (left .sounding .endx) bytes₀;
         slot = laneBytes x (left .envx) (left .sounding .endx);
       } in
-      let start : _≡_ {A = Landed} (record { voice = voiceAt dials settledIn j; delay = left .delay; sums = sums′; bytes = bytes′; slot = slot′ }) (f v out) =
+      let start : _≡_ {A = Landed} (record { voice = voiceAt dials (settledIn c j a) j; delay = left .delay; sums = sums′; bytes = bytes′; slot = slot′ }) (f v out) =
       (λ i. record { voice = ev i; delay = left .delay; sums = em i; bytes = (eb ∙ bytes-there (highZ out)) i; slot = (es ∙ (λ k. laneBytes out (envx-there k) (endx-there k))) i }) in
       start ∙ ap (f v) eo ∙ (λ i. f (ew i) (outputOf (ew i)))
+
+-- the arrays, delays and bytes of a moment
+pub record Moment : Type 0 where
+  pub arrays-are : Arrays
+  pub delays-are : List ℕ
+  pub bytes-are : List ℕ
+
+abbrev pub moment : Arrays → List ℕ → List ℕ → Moment
+moment a delays bytes = record { arrays-are = a; delays-are = delays; bytes-are = bytes }
+
+-- one lane more, of a voice that is worked
+pub lane-worked : (dials : List Dial) (mask : ℕ) (c : Shared) (ram found : List ℕ) (at : ℕ) (start : Round) (v : ℕ) (sheet : List ℕ) (a₀ : Arrays) (delays₀ bytes₀ : List ℕ) (sums : Sums) (x y : ℕ)
+    (a : Arrays) (delays bytes : List ℕ) (out : ℤ) (sums′ : Sums) (bytes′ slot′ : List ℕ)
+    → Lanes mask c ram found at start v sheet (voicesFrom dials a₀) delays₀ bytes₀ sums → v < 8 → x ≡ at + v * 4 → y ≡ x + 4 → length (midOf x (y - x) sheet) ≡ 4 → bit mask v ≡ true → length bytes₀ ≡ 128
+    → (s : Waited dials v a₀ delays₀ bytes₀ (waitAt dials c ram v (sums .prev) a₀ delays₀ bytes₀) a delays bytes)
+    → out ≡ scaledOutput (getD (a .envelopes) v noEnvelope .phase) (getD (a .envelopes) v noEnvelope .level) (sampleNow c v a)
+    → bytes′ ≡ set bytes (v * 16 + 9) (highZ out)
+    → slot′ ≡ laneBytes out (getD bytes (v * 16 + 8) 0) (endxOf v bytes)
+    → sums′ ≡ added (bit (c .eon) v) out (getD dials v noDial .«left_vol») (getD dials v noDial .«right_vol») sums
+    → Lanes mask c ram found at start (v + 1) (putMid x (y - x) sheet slot′) (voicesFrom dials (settledIn c v a)) delays bytes′ sums′
+lane-worked dials mask c ram found at start v sheet a₀ delays₀ bytes₀ sums x y a delays bytes out sums′ bytes′ slot′ l lt ea eb es on lb s eo ey ez em =
+    let b = settledIn c v a in
+    let slot = midOf x (y - x) sheet in
+    let w = waitAt dials c ram v (sums .prev) a₀ delays₀ bytes₀ in
+    let z : Landed = record { voice = voiceAt dials b v; delay = w .delay; sums = sums′; bytes = bytes′; slot = slot′ } in
+    let e : z ≡ turned (bit mask v) c ram v (getD (voicesFrom dials a₀) v noVoice) (getD delays₀ v 0) sums bytes₀ slot =
+    lands dials c ram v a₀ delays₀ bytes₀ sums a delays bytes lt lb s out sums′ bytes′ slot slot′ eo ey ez em
+    ∙ (λ i. turned (sym on i) c ram v (sym (voice-at dials a₀ v lt) i) (getD delays₀ v 0) sums bytes₀ slot) in
+    subst (λ (k : List ℕ). Lanes mask c ram found at start (v + 1) (putMid x (y - x) sheet slot′) (voicesFrom dials b) k bytes′ sums′) (sym (s .waits))
+    (subst (λ (k : List Voice). Lanes mask c ram found at start (v + 1) (putMid x (y - x) sheet slot′) k (set delays₀ v (w .delay)) bytes′ sums′) (sym (voices-now dials c ram v a₀ delays₀ bytes₀ sums a delays bytes lt lb s))
+    (lane-on mask c ram found at start v sheet (voicesFrom dials a₀) delays₀ bytes₀ sums x y z l lt ea eb es e))
