@@ -21,3 +21,4 @@ pub mod Batches
 pub mod Apart
 pub mod Steps
 pub mod Turning
+pub mod Made
