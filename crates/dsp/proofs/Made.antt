@@ -1,11 +1,11 @@
--- What a record was taken apart into makes it again.
+-- What a voice was taken apart into makes it again, and so for all voices in their arrays.
 use borrow.Author.Needs.{needs}
 use mathlib.Core.List.{List, [], _∷_, map}
-use mathlib.Core.Path.{_≡_, refl, sym, ap, _∙_}
-use Prim.Native.Nat.{ℕ, zero, suc, _≤_, _<_}
+use mathlib.Core.Path.{_≡_, refl, sym, _∙_}
+use Prim.Native.Nat.{ℕ, zero, suc, _<_}
 use native.Mathlib.Omega.{arith}
 use lib.IntN.{ℤ, pos}
-use lib.ListN.{getD, length, length-map}
+use lib.ListN.{getD, length}
 use lib.Seq.{ext-getD}
 use mir.Val.{Val}
 use denote.Shadow.{shadow}
@@ -63,9 +63,8 @@ module _ (vs : List Voice) (count : length vs ≡ 8) where
       ext-getD noVoice (voicesFrom dials a) vs (n ∙ sym count)
       (λ (k : ℕ) (l : k < length (voicesFrom dials a)).
       let h : k < length vs = omega arith in
-      let v = getD vs k noVoice in
       voice-at dials a k (omega arith)
       ∙ (λ i.
       asVoice (mapped-at dialOf vs noVoice noDial k h i) (mapped-at (λ w. envelopeOf (w .adsr)) vs noVoice noEnvelope k h i) (mapped-at playOf vs noVoice noPlay k h i) (mapped-at (λ w. feedOf (w .brr)) vs noVoice noFeed k h i)
       (mapped-at (λ w. w .«current_sample») vs noVoice (pos 0) k h i) (samplesAt k store))
-      ∙ voice-again v (samplesAt k store) (four-each k h) (samples k (omega arith)))
+      ∙ voice-again (getD vs k noVoice) (samplesAt k store) (four-each k h) (samples k (omega arith)))
