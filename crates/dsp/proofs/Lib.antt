@@ -19,5 +19,6 @@ pub mod Drives
 pub mod Whole
 pub mod Batches
 pub mod Apart
+pub mod Made
 pub mod Steps
 pub mod Turning
