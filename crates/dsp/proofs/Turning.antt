@@ -383,15 +383,17 @@ moment a delays bytes = record { arrays-are = a; delays-are = delays; bytes-are 
 
 -- one lane more, of a voice that is worked
 pub lane-worked : (dials : List Dial) (mask : ℕ) (c : Shared) (ram found : List ℕ) (at : ℕ) (start : Round) (v : ℕ) (sheet : List ℕ) (a₀ : Arrays) (delays₀ bytes₀ : List ℕ) (sums : Sums) (x y : ℕ)
-    (a : Arrays) (delays bytes : List ℕ) (out : ℤ) (sums′ : Sums) (bytes′ slot′ : List ℕ)
+    (a : Arrays) (delays bytes : List ℕ) (sample out : ℤ) (sums′ : Sums) (bytes′ slot′ : List ℕ)
     → Lanes mask c ram found at start v sheet (voicesFrom dials a₀) delays₀ bytes₀ sums → v < 8 → x ≡ at + v * 4 → y ≡ x + 4 → length (midOf x (y - x) sheet) ≡ 4 → bit mask v ≡ true → length bytes₀ ≡ 128
     → (s : Waited dials v a₀ delays₀ bytes₀ (waitAt dials c ram v (sums .prev) a₀ delays₀ bytes₀) a delays bytes)
+    → sample ≡ sampleNow c v a
     → out ≡ scaledOutput (getD (a .envelopes) v noEnvelope .phase) (getD (a .envelopes) v noEnvelope .level) (sampleNow c v a)
     → bytes′ ≡ set bytes (v * 16 + 9) (highZ out)
     → slot′ ≡ laneBytes out (getD bytes (v * 16 + 8) 0) (endxOf v bytes)
     → sums′ ≡ added (bit (c .eon) v) out (getD dials v noDial .«left_vol») (getD dials v noDial .«right_vol») sums
-    → Lanes mask c ram found at start (v + 1) (putMid x (y - x) sheet slot′) (voicesFrom dials (settledIn c v a)) delays bytes′ sums′
-lane-worked dials mask c ram found at start v sheet a₀ delays₀ bytes₀ sums x y a delays bytes out sums′ bytes′ slot′ l lt ea eb es on lb s eo ey ez em =
+    → (let b = arrays (a .envelopes) (a .plays) (a .feeds) (set (a .currents) v sample) (a .store) in
+    Sized b × Lanes mask c ram found at start (v + 1) (putMid x (y - x) sheet slot′) (voicesFrom dials b) delays bytes′ sums′)
+lane-worked dials mask c ram found at start v sheet a₀ delays₀ bytes₀ sums x y a delays bytes sample out sums′ bytes′ slot′ l lt ea eb es on lb s ev eo ey ez em =
     let b = settledIn c v a in
     let slot = midOf x (y - x) sheet in
     let w = waitAt dials c ram v (sums .prev) a₀ delays₀ bytes₀ in
@@ -399,6 +401,11 @@ lane-worked dials mask c ram found at start v sheet a₀ delays₀ bytes₀ sums
     let e : z ≡ turned (bit mask v) c ram v (getD (voicesFrom dials a₀) v noVoice) (getD delays₀ v 0) sums bytes₀ slot =
     lands dials c ram v a₀ delays₀ bytes₀ sums a delays bytes lt lb s out sums′ bytes′ slot slot′ eo ey ez em
     ∙ (λ i. turned (sym on i) c ram v (sym (voice-at dials a₀ v lt) i) (getD delays₀ v 0) sums bytes₀ slot) in
+    let landed-on : Lanes mask c ram found at start (v + 1) (putMid x (y - x) sheet slot′) (voicesFrom dials b) delays bytes′ sums′ =
     subst (λ (k : List ℕ). Lanes mask c ram found at start (v + 1) (putMid x (y - x) sheet slot′) (voicesFrom dials b) k bytes′ sums′) (sym (s .waits))
     (subst (λ (k : List Voice). Lanes mask c ram found at start (v + 1) (putMid x (y - x) sheet slot′) k (set delays₀ v (w .delay)) bytes′ sums′) (sym (voices-now dials c ram v a₀ delays₀ bytes₀ sums a delays bytes lt lb s))
-    (lane-on mask c ram found at start v sheet (voicesFrom dials a₀) delays₀ bytes₀ sums x y z l lt ea eb es e))
+    (lane-on mask c ram found at start v sheet (voicesFrom dials a₀) delays₀ bytes₀ sums x y z l lt ea eb es e)) in
+    subst (λ (k : ℤ).
+    (let d = arrays (a .envelopes) (a .plays) (a .feeds) (set (a .currents) v k) (a .store) in
+    Sized d × Lanes mask c ram found at start (v + 1) (putMid x (y - x) sheet slot′) (voicesFrom dials d) delays bytes′ sums′)) (sym ev)
+    (settled-sized dials c ram v a₀ delays₀ bytes₀ sums a delays bytes lt lb s, landed-on)
