@@ -193,7 +193,7 @@ asShared c =
       dir = c .dir;
       non = c .non;
       pmon = c .pmon;
-      eon = c .eon;
+      eon = if c .echo then c .eon else 0;
       noise = c .noise;
     }
 

@@ -337,14 +337,15 @@ impl Envelope {
     {
         let p = self.phase;
         if gains(p, s) {
-            return self.update_gain(s);
-        }
-        match p {
-            EnvelopePhase::Attack => self.attack(s),
-            EnvelopePhase::Decay => self.decay(s),
-            EnvelopePhase::Sustain => self.sustain(s),
-            EnvelopePhase::Release => self.release(),
-            EnvelopePhase::Off => self,
+            self.update_gain(s)
+        } else {
+            match p {
+                EnvelopePhase::Attack => self.attack(s),
+                EnvelopePhase::Decay => self.decay(s),
+                EnvelopePhase::Sustain => self.sustain(s),
+                EnvelopePhase::Release => self.release(),
+                EnvelopePhase::Off => self,
+            }
         }
     }
 }

@@ -35,7 +35,7 @@ use crate::voice::Voice;
 use numbers::bit;
 use numbers::with_bit;
 
-// What all voices see in a tick. koff and kon are 0 on a tick without a poll.
+// What all voices see in a tick. koff and kon are 0 on a tick without a poll; where the echo is not worked, no input is summed for it.
 pub struct Shared {
     pub koff: u8,
     pub kon: u8,
@@ -44,6 +44,7 @@ pub struct Shared {
     pub non: u8,
     pub pmon: u8,
     pub eon: u8,
+    pub echo: bool,
     pub noise: i16,
 }
 
@@ -340,24 +341,24 @@ pub(crate) fn closed(
     slot: &mut [u8],
 ) -> Acc
     requires { ⌜ (length (now bytes) ≡ 128) × (length (now slot) ≡ 4) × (j < 8) ⌝ }
-    ensures { λ r. ⌜ (now (bytes .exit) ≡ set (now (bytes .entry)) (j * 16 + 9) (highZ out)) × (now (slot .exit) ≡ laneBytes out (getD (now (bytes .entry)) (j * 16 + 8) 0) (bit (getD (now (bytes .entry)) 0x7C 0) j)) × (asSums r ≡ added (bit (c .eon) j) out (d .«left_vol») (d .«right_vol») (asSums acc)) ⌝ }
+    ensures { λ r. ⌜ (now (bytes .exit) ≡ set (now (bytes .entry)) (j * 16 + 9) (highZ out)) × (now (slot .exit) ≡ laneBytes out (getD (now (bytes .entry)) (j * 16 + 8) 0) (bit (getD (now (bytes .entry)) 0x7C 0) j)) × (asSums r ≡ added (bit (asShared c .eon) j) out (d .«left_vol») (d .«right_vol») (asSums acc)) ⌝ }
 {
     let envx = bytes[j * 16 + 8];
     bytes[j * 16 + 9] = numbers::high(out);
     put_slot(slot, out, envx, bit(bytes[0x7C], j));
-    acc.added(bit(c.eon, j), out, d.left_vol, d.right_vol)
+    acc.added(c.echo & bit(c.eon, j), out, d.left_vol, d.right_vol)
 }
 
 // A voice that is not stepped: its lane of the sheet says what it gives.
 pub(crate) fn shown(d: Dial, c: Shared, j: usize, acc: Acc, bytes: &mut [u8], slot: &[u8]) -> Acc
     requires { ⌜ (length (now bytes) ≡ 128) × (length (now slot) ≡ 4) × (j < 8) ⌝ }
-    ensures { λ r. ⌜ (now (bytes .exit) ≡ putBytes j (getD (now (slot .entry)) 2 0) (joined (getD (now (slot .entry)) 0 0) (getD (now (slot .entry)) 1 0)) (getD (now (slot .entry)) 3 0 % 2 =? 1) (now (bytes .entry))) × (asSums r ≡ added (bit (c .eon) j) (joined (getD (now (slot .entry)) 0 0) (getD (now (slot .entry)) 1 0)) (d .«left_vol») (d .«right_vol») (asSums acc)) ⌝ }
+    ensures { λ r. ⌜ (now (bytes .exit) ≡ putBytes j (getD (now (slot .entry)) 2 0) (joined (getD (now (slot .entry)) 0 0) (getD (now (slot .entry)) 1 0)) (getD (now (slot .entry)) 3 0 % 2 =? 1) (now (bytes .entry))) × (asSums r ≡ added (bit (asShared c .eon) j) (joined (getD (now (slot .entry)) 0 0) (getD (now (slot .entry)) 1 0)) (d .«left_vol») (d .«right_vol») (asSums acc)) ⌝ }
 {
     let out = sound::joined(slot[0], slot[1]);
     bytes[j * 16 + 8] = slot[2];
     bytes[j * 16 + 9] = numbers::high(out);
     put_endx(bytes, j, slot[3] % 2 == 1);
-    acc.added(bit(c.eon, j), out, d.left_vol, d.right_vol)
+    acc.added(c.echo & bit(c.eon, j), out, d.left_vol, d.right_vol)
 }
 
 // The poll of voice j. KON: all playback state starts anew, and the poll tick is the first of five that the voice does not step in. KOFF:

@@ -80,13 +80,6 @@ impl Glob {
         }
     }
 
-    // Where the echo is not worked, no input is summed for it.
-    fn heard_eon(self, echo: bool) -> u8
-        ensures { λ r. ⌜ r ≡ (if echo then self .eon else 0) ⌝ }
-    {
-        if echo { self.eon } else { 0 }
-    }
-
     // What the voices see: the noise as it has moved, the rest as it stood before the tick.
     fn shared(self, echo: bool, noise: Noise, koff: u8, dir: u8) -> Shared
         requires { ⌜ noise .lfsr ≤ 0x7FFF ⌝ }
@@ -99,7 +92,8 @@ impl Glob {
             dir,
             non: self.non,
             pmon: self.pmon,
-            eon: self.heard_eon(echo),
+            eon: self.eon,
+            echo,
             noise: noise.sample(),
         }
     }
@@ -171,19 +165,19 @@ impl Far {
 }
 
 impl Moving {
-    fn enveloped(self) -> [Envelope; 8]
+    pub(crate) fn enveloped(self) -> [Envelope; 8]
         ensures { λ r. ⌜ r ≡ self .envelopes ⌝ }
     {
         self.envelopes
     }
 
-    fn played(self) -> [Play; 8]
+    pub(crate) fn played(self) -> [Play; 8]
         ensures { λ r. ⌜ r ≡ self .plays ⌝ }
     {
         self.plays
     }
 
-    fn fed(self) -> [Feed; 8]
+    pub(crate) fn fed(self) -> [Feed; 8]
         ensures { λ r. ⌜ r ≡ self .feeds ⌝ }
     {
         self.feeds
@@ -309,25 +303,31 @@ impl Moving {
 }
 
 impl Dsp {
-    fn bytes(self) -> [u8; 128]
+    pub(crate) fn bytes(self) -> [u8; 128]
         ensures { λ r. ⌜ r ≡ self .registers ⌝ }
     {
         self.registers
     }
 
-    fn lanes(self) -> [Voice; 8]
+    pub(crate) fn lanes(self) -> [Voice; 8]
         ensures { λ r. ⌜ r ≡ self .voices ⌝ }
     {
         self.voices
     }
 
-    fn delays(self) -> [u8; 8]
+    pub(crate) fn delays(self) -> [u8; 8]
         ensures { λ r. ⌜ r ≡ self .«kon_delay» ⌝ }
     {
         self.kon_delay
     }
 
-    fn far(self) -> Far
+    pub(crate) fn taps(self) -> [i8; 8]
+        ensures { λ r. ⌜ r ≡ self .«fir_coeff» ⌝ }
+    {
+        self.fir_coeff
+    }
+
+    pub(crate) fn far(self) -> Far
         ensures { λ r. ⌜ (asGlobals (r .glob) ≡ globalsOf self) × (r .left ≡ self .«fir_history_l») × (r .right ≡ self .«fir_history_r») ⌝ }
     {
         let left = self.fir_history_l;
@@ -337,7 +337,7 @@ impl Dsp {
     }
 
     // The record made again.
-    fn with_parts(
+    pub(crate) fn with_parts(
         self,
         f: Far,
         registers: [u8; 128],
@@ -366,7 +366,7 @@ impl Dsp {
     {
         let table = gauss_table();
         let rates = rate_table();
-        let taps = self.fir_coeff;
+        let taps = self.taps();
         let mut bytes = self.bytes();
         let voices = self.lanes();
         let mut delays = self.delays();
@@ -463,7 +463,7 @@ fn refused(refusal: u8, dsp: Dsp) -> Answer
 
 // ---- the arrays, and the voices made of them again
 
-fn dials_of(rates: &[u16], voices: [Voice; 8]) -> [Dial; 8]
+pub(crate) fn dials_of(rates: &[u16], voices: [Voice; 8]) -> [Dial; 8]
     requires { ⌜ (now rates ≡ periods) × ((j : ℕ) → FitVoice (getD voices j noVoice)) ⌝ }
     ensures { λ r. ⌜ r ≡ map dialOf voices ⌝ }
 {
@@ -480,7 +480,7 @@ fn dials_of(rates: &[u16], voices: [Voice; 8]) -> [Dial; 8]
     r
 }
 
-fn envelopes_of(voices: [Voice; 8]) -> [Envelope; 8]
+pub(crate) fn envelopes_of(voices: [Voice; 8]) -> [Envelope; 8]
     ensures { λ r. ⌜ r ≡ map (λ v. envelopeOf (v .adsr)) voices ⌝ }
 {
     let v = voices[0];
@@ -496,7 +496,7 @@ fn envelopes_of(voices: [Voice; 8]) -> [Envelope; 8]
     r
 }
 
-fn plays_of(voices: [Voice; 8]) -> [Play; 8]
+pub(crate) fn plays_of(voices: [Voice; 8]) -> [Play; 8]
     ensures { λ r. ⌜ r ≡ map playOf voices ⌝ }
 {
     let v = voices[0];
@@ -512,7 +512,7 @@ fn plays_of(voices: [Voice; 8]) -> [Play; 8]
     r
 }
 
-fn feeds_of(voices: [Voice; 8]) -> [Feed; 8]
+pub(crate) fn feeds_of(voices: [Voice; 8]) -> [Feed; 8]
     ensures { λ r. ⌜ r ≡ map (λ v. feedOf (v .brr)) voices ⌝ }
 {
     let v = voices[0];
@@ -528,7 +528,7 @@ fn feeds_of(voices: [Voice; 8]) -> [Feed; 8]
     r
 }
 
-fn currents_of(voices: [Voice; 8]) -> [i16; 8]
+pub(crate) fn currents_of(voices: [Voice; 8]) -> [i16; 8]
     ensures { λ r. ⌜ r ≡ map (λ v. v .«current_sample») voices ⌝ }
 {
     let mut r: [i16; 8] = [0; 8];
@@ -543,7 +543,7 @@ fn currents_of(voices: [Voice; 8]) -> [i16; 8]
 }
 
 // The samples of all voices, 16 each.
-fn store_of(voices: [Voice; 8]) -> [i16; 128]
+pub(crate) fn store_of(voices: [Voice; 8]) -> [i16; 128]
     ensures { λ r. ⌜ ((j : ℕ) → j < 8 → samplesAt j r ≡ getD voices j noVoice .brr .«sample_buffer») ⌝ }
 {
     let mut store: [i16; 128] = [0; 128];
@@ -581,7 +581,7 @@ fn samples_of(from: &[i16]) -> [i16; 16]
     x
 }
 
-fn voices_of(
+pub(crate) fn voices_of(
     dials: [Dial; 8],
     envelopes: [Envelope; 8],
     plays: [Play; 8],
