@@ -5,11 +5,14 @@ use mathlib.Core.List.{List, [], _∷_}
 use mathlib.Core.Path.{_≡_}
 use Prim.Native.Nat.{ℕ, zero, suc, _+_, _-_, _*_, _%_}
 use lib.IntN.{ℤ, pos}
-use lib.ListN.{getD, take, drop}
+use lib.ListN.{length, getD, take, drop}
 use Rattle.numbers.specs.Choice.{if_then_else_, _≤?_, _=?_}
 use Rattle.numbers.specs.Listed.{listed}
 use Rattle.numbers.specs.Unsigned.{least}
 use Rattle.sound.specs.Clock.{periodOf}
+use Rattle.log.specs.Log.{decode}
+use Rattle.log.specs.Measure.{totalOf}
+use Rattle.log.specs.declared.Measured.{Measured}
 use Rattle.dsp.specs.Noise.{Noise}
 use Rattle.dsp.specs.Machine.{Globals, Parts, together}
 use Rattle.dsp.specs.With.{withState, moved, withPosition, withNibble}
@@ -20,7 +23,7 @@ use Rattle.dsp.specs.Mix.{Stereo}
 use Rattle.dsp.specs.Lane.{Shared, Sums}
 use Rattle.dsp.specs.declared.adsr.Adsr.{Adsr}
 use Rattle.dsp.specs.declared.adsr.Envelope.{Envelope}
-use Rattle.dsp.specs.declared.adsr.EnvelopePhase.the-variants.{Attack}
+use Rattle.dsp.specs.declared.adsr.EnvelopePhase.the-variants.{Attack, Off}
 use Rattle.dsp.specs.declared.adsr.Settings.{Settings}
 use Rattle.dsp.specs.declared.brr.Block.{Block}
 use Rattle.dsp.specs.declared.brr.Brr.{Brr}
@@ -83,6 +86,10 @@ envelopeOf a = record { level = a .«envelope_level»; phase = a .«envelope_pha
 abbrev pub asEnvelope : Adsr → Envelope → Adsr
 asEnvelope a e = withState a (e .level) (e .phase) (e .counter)
 
+-- a hard cut
+abbrev pub cutEnvelope : Envelope → Envelope
+cutEnvelope e = record { level = 0; phase = Off; counter = e .counter }
+
 -- ---- a voice: its dial, which only register writes change, its envelope, what moves at each sample and what at each block, its sample, and
 -- the 16 samples of its block
 
@@ -138,6 +145,19 @@ playOf v =
 
 abbrev pub feedOf : Brr → Feed
 feedOf b = record { addr = b .addr; «buffer_fill» = b .«buffer_fill»; prev1 = b .prev1; prev2 = b .prev2; «block_end» = b .«block_end» }
+
+-- key_on clear
+abbrev pub hushedPlay : Play → Play
+hushedPlay p =
+    record {
+      «key_on» = false;
+      «nibble_idx» = p .«nibble_idx»;
+      «pitch_counter» = p .«pitch_counter»;
+      oldest = p .oldest;
+      older = p .older;
+      newer = p .newer;
+      newest = p .newest;
+    }
 
 -- in its tick, with its sample
 abbrev pub asSounding : Voice → Envelope → Play → Feed → List ℤ → Bool → Sounding
@@ -312,3 +332,13 @@ partsIn m dials taps currents delays store bytes =
       right = m .far .right;
       globals = asGlobals (m .far .glob);
     }
+
+-- ---- a log that is refused by nothing, and slices that are as long as it needs
+
+pub record Ready (log pcm sheet readings : List ℕ) : Type 0 where
+  pub ticks : ℕ
+  pub count : ℕ
+  pub all : _≡_ {A = Measured} (totalOf (decode log) 0 0) (record { refusal = 0; ticks = ticks; readings = count })
+  pub pcmIs : length pcm ≡ ticks * 4
+  pub sheetIs : length sheet ≡ ticks * 36
+  pub readingsIs : length readings ≡ count

@@ -10,9 +10,9 @@ ghost use Rattle.dsp.specs.Fit.{adsrRule, meets, FitAdsr};
 ghost use Rattle.dsp.specs.Envelope.{counted, levelled, risen, settled, fallenTo, isOff, isHeld, attackTick, decayTick, sustainTick, releaseTick, gainTick, envelopeTick};
 ghost use Rattle.dsp.specs.Mix.{scaledOutput};
 ghost use Rattle.dsp.specs.With.{withState};
-ghost use Rattle.dsp.specs.Inside.{asEnvelope, asAdsr, Wound};
+ghost use Rattle.dsp.specs.Inside.{Wound, cutEnvelope, asEnvelope, asAdsr};
 ghost use Rattle.dsp.specs.declared.adsr.Adsr.{Adsr};
-ghost use Rattle.dsp.specs.declared.adsr.EnvelopePhase.the-variants.{Attack, Release, Off};
+ghost use Rattle.dsp.specs.declared.adsr.EnvelopePhase.the-variants.{Attack, Release};
 ghost use Rattle.dsp.specs.declared.adsr.Settings.{Settings};
 use crate::mix::scaled_output;
 
@@ -162,7 +162,7 @@ impl Envelope {
 
     // A hard cut and no release.
     pub(crate) fn cut(self) -> Self
-        ensures { λ r. ⌜ ((a : Adsr) → asEnvelope a r ≡ withState a 0 Off (self .counter)) ⌝ }
+        ensures { λ r. ⌜ r ≡ cutEnvelope self ⌝ }
     {
         Envelope {
             level: 0,

@@ -12,7 +12,7 @@ ghost use Rattle.dsp.specs.Interpolation.{interpolateZ};
 ghost use Rattle.dsp.specs.Ram.{entryOf};
 ghost use Rattle.dsp.specs.Brr.{decodeBlock};
 ghost use Rattle.dsp.specs.Voice.{pitchOf, positionOf, blockOf, nextAddress};
-ghost use Rattle.dsp.specs.Inside.{asSource, historyOf, asBrr, asSounding, pushedOn, begunOf, dueOf, restLeft, blockAddress, goneOn};
+ghost use Rattle.dsp.specs.Inside.{asSource, historyOf, hushedPlay, asBrr, asSounding, pushedOn, begunOf, dueOf, restLeft, blockAddress, goneOn};
 ghost use Rattle.dsp.specs.declared.adsr.Envelope.{Envelope};
 ghost use Rattle.dsp.specs.declared.play.Feed.{Feed};
 ghost use Rattle.dsp.specs.declared.play.Play.{Play};
@@ -155,7 +155,7 @@ impl Play {
     }
 
     pub(crate) fn keyed_off(self) -> Self
-        ensures { λ r. ⌜ (r .«key_on» ≡ false) × (r .«nibble_idx» ≡ self .«nibble_idx») × (r .«pitch_counter» ≡ self .«pitch_counter») × (historyOf r ≡ historyOf self) ⌝ }
+        ensures { λ r. ⌜ r ≡ hushedPlay self ⌝ }
     {
         Play {
             key_on: false,

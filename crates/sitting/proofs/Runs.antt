@@ -13,7 +13,7 @@ use Rattle.log.specs.declared.Record.{Record}
 use Rattle.log.specs.declared.Record.the-variants.{Write, Ticks, Reading}
 use Rattle.log.specs.declared.Measured.{Measured}
 use Rattle.log.proofs.Turn.{Taken}
-use Rattle.sitting.specs.Play.{Run, play, playAll}
+use Rattle.dsp.specs.Play.{Run, play, playAll}
 use Rattle.sitting.specs.Stand.{Ready}
 
 -- a log that is taken, and slices that fit it

@@ -5,7 +5,7 @@ ghost use Prim.Native.Nat.{_*_, _≤_};
 ghost use Rattle.numbers.specs.Choice.{_=?_};
 ghost use Rattle.dsp.specs.PowerOn.{newDsp};
 ghost use Rattle.dsp.specs.Tick.{everything};
-ghost use Rattle.sitting.specs.Run.{Outcome, runWith, runOf};
+ghost use Rattle.dsp.specs.Run.{Outcome, runWith, runOf};
 use dsp::Dsp;
 use dsp::Work;
 use dsp::play;

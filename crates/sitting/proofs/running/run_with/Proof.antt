@@ -8,7 +8,7 @@ use borrow.Author.Tests.{eq-eqb, ne-eqb, not-true, not-false}
 use Rattle.dsp.specs.Fit.{fit}
 use Rattle.dsp.proofs.Fits.{fit-facts}
 use Rattle.log.proofs.Turn.{taken}
-use Rattle.sitting.specs.Run.{ran, runMeasured, runWith}
+use Rattle.dsp.specs.Run.{ran, runMeasured, runWith}
 use Rattle.sitting.proofs.Runs.{ready}
 use Rattle.sitting.proofs.running.run_with.Statement.{statement}
 use Rattle.sitting.proofs.running.run_with.Tie as tie

@@ -4,15 +4,15 @@ use mathlib.Core.List.{List}
 use Prim.Native.Nat.{ℕ, _*_}
 use lib.ListN.{length}
 use Rattle.numbers.specs.Choice.{if_then_else_, _=?_}
 use Rattle.dsp.specs.Machine.{together}
 use Rattle.dsp.specs.Fit.{fit}
 use Rattle.dsp.specs.Tick.{everything}
 use Rattle.dsp.specs.declared.registers.Dsp.{Dsp}
 use Rattle.dsp.specs.declared.tick.Work.{Work}
 use Rattle.log.specs.Log.{decode}
 use Rattle.log.specs.Measure.{measureOf}
 use Rattle.log.specs.declared.Measured.{Measured}
-use Rattle.sitting.specs.Play.{Run, playAll, starting}
+use Rattle.dsp.specs.Play.{Run, playAll, starting}
 
 -- what a call leaves: its answer, and the lent slices
 pub record Outcome : Type 0 where
