@@ -19,7 +19,7 @@ pub use mix::Sample;
 pub use registers::Answer;
 pub use registers::Dsp;
 pub use run::Played;
-pub use run::play;
+pub use run::play_log;
 pub use sound::decode_brr_nibble;
 pub use tick::RAM_SIZE;
 pub use tick::Work;

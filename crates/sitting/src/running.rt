@@ -8,7 +8,7 @@ ghost use Rattle.dsp.specs.Tick.{everything};
 ghost use Rattle.dsp.specs.Run.{Outcome, runWith, runOf};
 use dsp::Dsp;
 use dsp::Work;
-use dsp::play;
+use dsp::play_log;
 
 // 0 or the refusal, the record, and how many ticks and readings were put out.
 pub struct Ran {
@@ -41,7 +41,7 @@ pub fn run_with(
 ) -> Ran
     ensures { λ r. ⌜ _≡_ {A = Outcome} (record { refusal = r .refusal; dsp = r .dsp; ticks = r .ticks; count = r .readings; ram = now (ram .exit); pcm = now (pcm .exit); sheet = now (sheet .exit); readings = now (readings .exit) }) (runWith work start (now (ram .entry)) (now (log .entry)) (now (pcm .entry)) (now (sheet .entry)) (now (readings .entry))) ⌝ }
 {
-    let p = play(work, start, ram, log, pcm, sheet, readings);
+    let p = play_log(work, start, ram, log, pcm, sheet, readings);
     let dsp = p.dsp;
     Ran {
         refusal: p.refusal,
