@@ -43,6 +43,12 @@ pub struct Played {
     pub readings: u32,
 }
 
+// What RESET moves of the voices.
+pub struct Muted {
+    pub envelopes: [Envelope; 8],
+    pub plays: [Play; 8],
+}
+
 impl Far {
     fn write(self, register: u8, value: u8) -> Self
         ensures { λ r. ⌜ (asGlobals (r .glob) ≡ globalsAfter register value (asGlobals (self .glob))) × (r .left ≡ self .left) × (r .right ≡ self .right) ⌝ }
@@ -72,32 +78,25 @@ fn put_byte(register: u8, value: u8, bytes: &mut [u8], taps: &mut [i8])
 }
 
 // RESET silences every voice at once: level 0, Off, key_on clear.
-fn cut_all(envelopes: [Envelope; 8]) -> [Envelope; 8]
-    ensures { λ r. ⌜ r ≡ map cutEnvelope envelopes ⌝ }
+fn hush(envelopes: [Envelope; 8], plays: [Play; 8]) -> Muted
+    ensures { λ r. ⌜ (r .envelopes ≡ map cutEnvelope envelopes) × (r .plays ≡ map hushedPlay plays) ⌝ }
 {
-    let mut r = envelopes;
+    let mut cut = envelopes;
+    let mut off = plays;
     let mut n: usize = 0;
     while n < 8 {
-        let e = r[n];
+        let e = cut[n];
         let h = e.cut();
-        r[n] = h;
-        n += 1;
-    }
-    r
-}
-
-fn hushed(plays: [Play; 8]) -> [Play; 8]
-    ensures { λ r. ⌜ r ≡ map hushedPlay plays ⌝ }
-{
-    let mut r = plays;
-    let mut n: usize = 0;
-    while n < 8 {
-        let p = r[n];
+        cut[n] = h;
+        let p = off[n];
         let q = p.keyed_off();
-        r[n] = q;
+        off[n] = q;
         n += 1;
     }
-    r
+    Muted {
+        envelopes: cut,
+        plays: off,
+    }
 }
 
 // The log was checked before: where no record stands, the run is over.
@@ -143,8 +142,9 @@ fn play_all(
                 dials[v] = e;
                 f = f.write(register, value);
                 if (register == 0x6C) & (value >= 0x80) {
-                    envelopes = cut_all(envelopes);
-                    plays = hushed(plays);
+                    let h = hush(envelopes, plays);
+                    envelopes = h.envelopes;
+                    plays = h.plays;
                 }
             }
             Record::Ticks { count } => {
@@ -175,9 +175,9 @@ fn play_all(
                     &mut sheet[row..end],
                 );
                 f = k.far;
-                envelopes = k.enveloped();
-                plays = k.played();
-                feeds = k.fed();
+                envelopes = k.envelopes;
+                plays = k.plays;
+                feeds = k.feeds;
                 ticks += n;
             }
             Record::Reading { register } => {

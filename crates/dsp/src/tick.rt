@@ -165,19 +165,19 @@ impl Far {
 }
 
 impl Moving {
-    pub(crate) fn enveloped(self) -> [Envelope; 8]
+    fn enveloped(self) -> [Envelope; 8]
         ensures { λ r. ⌜ r ≡ self .envelopes ⌝ }
     {
         self.envelopes
     }
 
-    pub(crate) fn played(self) -> [Play; 8]
+    fn played(self) -> [Play; 8]
         ensures { λ r. ⌜ r ≡ self .plays ⌝ }
     {
         self.plays
     }
 
-    pub(crate) fn fed(self) -> [Feed; 8]
+    fn fed(self) -> [Feed; 8]
         ensures { λ r. ⌜ r ≡ self .feeds ⌝ }
     {
         self.feeds
@@ -201,7 +201,7 @@ impl Moving {
         sheet: &mut [u8],
     ) -> Self
         requires { ⌜ (now table ≡ weights) × (now rates ≡ periods) × (length (now currents) ≡ 8) × (length (now delays) ≡ 8) × (length (now store) ≡ 128) × (length (now bytes) ≡ 128) × (length (now ram) ≡ 0x10000) × (n < 0x10000) × (length (now pcm) ≡ n * 4) × (length (now sheet) ≡ n * 36) × ((j : ℕ) → j < 8 → Wound (getD dials j noDial .settings)) × Fit (together (partsIn self dials taps (now currents) (now delays) (now store) (now bytes))) ⌝ }
-        ensures { λ r. ⌜ (_≡_ {A = Bench} (record { parts = partsIn r dials taps (now (currents .exit)) (now (delays .exit)) (now (store .exit)) (now (bytes .exit)); ram = now (ram .exit); pcm = now (pcm .exit); sheet = now (sheet .exit); old = [] }) (ticksOf work n (record { parts = partsIn self dials taps (now (currents .entry)) (now (delays .entry)) (now (store .entry)) (now (bytes .entry)); ram = now (ram .entry); pcm = []; sheet = []; old = now (sheet .entry) }))) × Fit (together (partsIn r dials taps (now (currents .exit)) (now (delays .exit)) (now (store .exit)) (now (bytes .exit)))) ⌝ }
+        ensures { λ r. ⌜ (_≡_ {A = Bench} (record { parts = partsIn r dials taps (now (currents .exit)) (now (delays .exit)) (now (store .exit)) (now (bytes .exit)); ram = now (ram .exit); pcm = now (pcm .exit); sheet = now (sheet .exit); old = [] }) (ticksOf work n (record { parts = partsIn self dials taps (now (currents .entry)) (now (delays .entry)) (now (store .entry)) (now (bytes .entry)); ram = now (ram .entry); pcm = []; sheet = []; old = now (sheet .entry) }))) × Fit (together (partsIn r dials taps (now (currents .exit)) (now (delays .exit)) (now (store .exit)) (now (bytes .exit)))) × (length (r .envelopes) ≡ 8) × (length (r .plays) ≡ 8) × (length (r .feeds) ≡ 8) ⌝ }
     {
         let mut f = self.far;
         let mut envelopes = self.enveloped();
