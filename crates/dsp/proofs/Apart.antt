@@ -10,12 +10,13 @@ use lib.ListN.{getD, set, length, length-set, length-append, List·getD-append}
 use lib.Seq.{getD-set-same, getD-set-other, getD-at, ext-getD}
 use borrow.Rule.Slice.PartMut.{putMid}
 use Rattle.numbers.specs.Listed.{listed}
-use Rattle.dsp.specs.Machine.{noVoice}
-use Rattle.dsp.specs.Inside.{asVoice, noDial, noEnvelope, noPlay, noFeed, samplesAt, voicesIn}
+use Rattle.dsp.specs.Machine.{noVoice, Parts}
+use Rattle.dsp.specs.Inside.{asVoice, asGlobals, noDial, noEnvelope, noPlay, noFeed, samplesAt, voicesIn}
 use Rattle.dsp.specs.declared.adsr.Envelope.{Envelope}
 use Rattle.dsp.specs.declared.lane.Dial.{Dial}
 use Rattle.dsp.specs.declared.play.Feed.{Feed}
 use Rattle.dsp.specs.declared.play.Play.{Play}
+use Rattle.dsp.specs.declared.tick.Far.{Far}
 use Rattle.dsp.specs.declared.voice.Voice.{Voice}
 
 -- ---- a list by index
@@ -94,3 +95,8 @@ module _ (dials : List Dial) where
         | yes q ↦ ap (voiceAt b) q ∙ e ∙ sym (getD-set-same (voicesFrom a) j w noVoice (omega arith)) ∙ ap (λ (z : ℕ). getD (set (voicesFrom a) j w) z noVoice) (sym q)
         | no q ↦ h k q ∙ sym (getD-set-other (voicesFrom a) j k w noVoice q ∙ voice-at a k (omega arith))
       ])
+
+-- the parts that the arrays stand for
+abbrev pub partsFrom : List Dial → List ℤ → Arrays → List ℕ → List ℕ → Far → Parts
+partsFrom dials taps a delays bytes f =
+    record { registers = bytes; voices = voicesFrom dials a; delays = delays; taps = taps; left = f .left; right = f .right; globals = asGlobals (f .glob) }

@@ -35,7 +35,7 @@ voice-again v samples e s = rw (four (v .history) e, s)
 -- ---- all voices
 
 -- inside an array it does not matter what stands past its end
-mapped-at : {A B : Type 0} (f : A → B) (l : List A) (d : A) (e : B) (k : ℕ) → k < length l → getD (map f l) k e ≡ f (getD l k d)
+pub mapped-at : {A B : Type 0} (f : A → B) (l : List A) (d : A) (e : B) (k : ℕ) → k < length l → getD (map f l) k e ≡ f (getD l k d)
 mapped-at f [] d e k h = absurd (omega arith)
 mapped-at f (x ∷ xs) d e zero h = refl
 mapped-at f (x ∷ xs) d e (suc k) h = mapped-at f xs d e k (omega arith)
