@@ -2,7 +2,7 @@
 -- whole run.
 use mathlib.Core.Bool.{Bool, true, false, _&&_}
 use mathlib.Core.List.{List, [], _∷_, _++_, map, append-nil}
-use mathlib.Core.Path.{_≡_, refl, sym, ap, _∙_}
+use mathlib.Core.Path.{_≡_, refl, sym, ap, subst, _∙_}
 use Prim.Native.Nat.{ℕ, _+_, _-_, _*_, _/_, _%_, _≤_, _<_}
 use native.Mathlib.Omega.{arith}
 use native.Mathlib.Decide.{ℕ-discrete, decLt}
@@ -10,13 +10,14 @@ use lib.IntN.{ℤ, pos}
 use lib.ListN.{getD, set, length, length-set, length-map, take, drop, take-append-drop, drop-of-length-le}
 use lib.Seq.{take-all, ext-getD, getD-set-same, getD-set-other, set-getD}
 use borrow.Author.Tests.{eq-eqb, ne-eqb, lt-ltb, le-ltb, eqb-true}
-use borrow.Rule.Slice.PartMut.{putMid, midOf, mid-len, post-is}
+use borrow.Rule.Slice.PartMut.{putMid, midOf, mid-len, post-is, same-len-mid}
 use Rattle.numbers.specs.Choice.{if_then_else_, _<?_, _=?_}
 use Rattle.numbers.specs.Bits.{bit}
-use Rattle.numbers.proofs.Parts.{written-to, done-is, rest-is, part-written}
+use Rattle.numbers.proofs.Parts.{one-more, written-to, done-is, rest-is, part-written}
 use Rattle.log.specs.Log.{Known, readAt, decodeFrom, decode}
 use Rattle.log.specs.Measure.{ticksIn, readingsIn}
 use Rattle.log.specs.declared.Record.{Record}
+use Rattle.log.specs.declared.Record.the-variants.{Write, Ticks, Reading}
 use Rattle.log.specs.declared.Next.{Next}
 use Rattle.log.specs.declared.Next.the-variants.{Off}
 use Rattle.log.proofs.Turn.{Here, Turned, ended, most}
@@ -25,7 +26,7 @@ use Rattle.dsp.specs.Keys.{silenced}
 use Rattle.dsp.specs.Registers.{writeVoice, resets, globalsAfter, bytesAfter, voicesAfter, tapsAfter, writeParts}
 use Rattle.dsp.specs.Ticks.{Bench, ticksOf}
 use Rattle.dsp.specs.Play.{Run, play, playAll}
-use Rattle.dsp.specs.Inside.{asVoice, asGlobals, cutEnvelope, hushedPlay, noDial, noEnvelope, noPlay, noFeed, samplesAt, Ready}
+use Rattle.dsp.specs.Inside.{Wound, asVoice, asGlobals, cutEnvelope, hushedPlay, noDial, noEnvelope, noPlay, noFeed, samplesAt, Ready}
 use Rattle.dsp.specs.declared.adsr.Envelope.{Envelope}
 use Rattle.dsp.specs.declared.lane.Dial.{Dial}
 use Rattle.dsp.specs.declared.play.Feed.{Feed}
@@ -35,6 +36,7 @@ use Rattle.dsp.specs.declared.tick.Work.{Work}
 use Rattle.dsp.specs.declared.voice.Voice.{Voice}
 use Rattle.dsp.proofs.Apart.{Arrays, arrays, Sized, voiceAt, voicesFrom, voices-count, voice-at, partsFrom}
 use Rattle.dsp.proofs.Made.{mapped-at}
+use Rattle.dsp.proofs.Ticks.{BenchFit, fit-kept-ticks, fit-kept-bench-write}
 use Rattle.dsp.proofs.Batches.{behind, ticks-behind}
 
 -- ---- where the loop stands: the first t samples and rows and the first q readings are its own, and the sheet behind them is as it was found
@@ -192,3 +194,87 @@ written-parts dials taps taps′ a b delays bytes bytes′ f f′ i x e li ld h 
     either : (t : Bool) → voicesFrom dials (if t then hushedArrays a else a) ≡ (if t then map silenced (voicesFrom dials a) else voicesFrom dials a)
     either true = hushed-voices dials a h
     either false = refl
+
+-- ---- the loop: what holds between two records
+
+pub record Between (w : Work) (log pcm₀ sheet₀ readings₀ : List ℕ) (x₀ : Run) (dials : List Dial) (taps : List ℤ) (a : Arrays) (delays bytes : List ℕ) (f : Far) (ram pcm sheet readings : List ℕ) (t q at : ℕ) : Type 0 where
+  pub sized : Sized a
+  pub count : length dials ≡ 8
+  pub eight : length taps ≡ 8
+  pub wound : (k : ℕ) → k < 8 → Wound (getD dials k noDial .settings)
+  pub fit : BenchFit (benchNow (partsFrom dials taps a delays bytes f) ram pcm sheet t)
+  pub pcm-is : length pcm ≡ length pcm₀
+  pub sheet-is : length sheet ≡ length sheet₀
+  pub readings-is : length readings ≡ length readings₀
+  pub playing : Playing w log x₀ (standing (partsFrom dials taps a delays bytes f) ram pcm sheet readings t q) at t q
+
+-- ---- a record moves it on
+
+module _ {w : Work} {log pcm₀ sheet₀ readings₀ : List ℕ} {x₀ : Run} {dials : List Dial} {taps : List ℤ} {a : Arrays} {delays bytes : List ℕ} {f : Far} {ram pcm sheet readings : List ℕ} {t q at : ℕ}
+    (s : Between w log pcm₀ sheet₀ readings₀ x₀ dials taps a delays bytes f ram pcm sheet readings t q at) {behind : ℕ} where
+  pub on-write : (i x : ℕ) (e : Dial) (taps′ : List ℤ) (b : Arrays) (bytes′ : List ℕ) (f′ : Far) → Turned log at t q (s .playing .here .f) (Write i x) behind → i < 128 → x < 256 → Sized b
+      → length taps′ ≡ 8
+      → ((env : Envelope) (p : Play) (d : Feed) (y : ℤ) (l : List ℤ) → asVoice e env p d y l ≡ writeVoice (i % 16) x (asVoice (getD dials (i / 16) noDial) env p d y l)) × Wound (e .settings)
+      → bytes′ ≡ bytesAfter i x bytes → taps′ ≡ tapsAfter i x taps
+      → (asGlobals (f′ .glob) ≡ globalsAfter i x (asGlobals (f .glob))) × (f′ .left ≡ f .left) × (f′ .right ≡ f .right)
+      → b ≡ (if resets i x then hushedArrays a else a)
+      → Between w log pcm₀ sheet₀ readings₀ x₀ (set dials (i / 16) e) taps′ b delays bytes′ f′ ram pcm sheet readings t q behind
+  unfolding play
+  on-write i x e taps′ b bytes′ f′ u li lx hb lt ed eb et ef ea =
+      let p = written-parts dials taps taps′ a b delays bytes bytes′ f f′ i x e li (s .count) (s .sized) (ed .0) eb et ef ea in
+      let lj : i / 16 < 8 = omega arith in
+      record {
+        sized = hb;
+        count = simp length-set (s .count);
+        eight = lt;
+        wound =
+            λ k l. elim (ℕ-discrete k (i / 16)) [
+              | yes z ↦ subst (λ (d : Dial). Wound (d .settings)) (sym (ap (λ (m : ℕ). getD (set dials (i / 16) e) m noDial) z ∙ getD-set-same dials (i / 16) e noDial (omega (arith, s .count)))) (ed .1)
+              | no z ↦ subst (λ (d : Dial). Wound (d .settings)) (sym (getD-set-other dials (i / 16) k e noDial z)) (s .wound k l)
+            ];
+        fit = subst (λ (y : Parts). BenchFit (benchNow y ram pcm sheet t)) (sym p) (fit-kept-bench-write i x (benchNow (partsFrom dials taps a delays bytes f) ram pcm sheet t) li lx (s .fit));
+        pcm-is = s .pcm-is;
+        sheet-is = s .sheet-is;
+        readings-is = s .readings-is;
+        playing = played-on (s .playing) u (λ k. standing (p k) ram pcm sheet readings t q) (omega arith) (omega arith);
+      }
+
+  pub on-ticks : (n : ℕ) (b : Arrays) (delays′ bytes′ : List ℕ) (f′ : Far) (ram′ newPcm newSheet : List ℕ) → Turned log at t q (s .playing .here .f) (Ticks n) behind → Sized b
+      → t * 4 + n * 4 ≤ length pcm → t * 36 + n * 36 ≤ length sheet
+      → length newPcm ≡ length (midOf (t * 4) (t * 4 + n * 4 - t * 4) pcm) → length newSheet ≡ length (midOf (t * 36) (t * 36 + n * 36 - t * 36) sheet)
+      → _≡_ {A = Bench} (record { parts = partsFrom dials taps b delays′ bytes′ f′; ram = ram′; pcm = newPcm; sheet = newSheet; old = [] })
+      (ticksOf w n (record { parts = partsFrom dials taps a delays bytes f; ram = ram; pcm = []; sheet = []; old = midOf (t * 36) (t * 36 + n * 36 - t * 36) sheet }))
+      → Between w log pcm₀ sheet₀ readings₀ x₀ dials taps b delays′ bytes′ f′ ram′ (putMid (t * 4) (t * 4 + n * 4 - t * 4) pcm newPcm) (putMid (t * 36) (t * 36 + n * 36 - t * 36) sheet newSheet) readings (t + n) q behind
+  unfolding play
+  on-ticks n b delays′ bytes′ f′ ram′ newPcm newSheet u hb hp hs xp xs ex =
+      let p = partsFrom dials taps a delays bytes f in
+      let p′ = partsFrom dials taps b delays′ bytes′ f′ in
+      let e = batch w n p p′ ram ram′ pcm sheet t newPcm newSheet hp hs xp xs ex in
+      record {
+        sized = hb;
+        count = s .count;
+        eight = s .eight;
+        wound = s .wound;
+        fit = subst BenchFit (sym e) (fit-kept-ticks w n (benchNow p ram pcm sheet t) (s .fit));
+        pcm-is = same-len-mid (t * 4) (t * 4 + n * 4 - t * 4) pcm newPcm xp ∙ s .pcm-is;
+        sheet-is = same-len-mid (t * 36) (t * 36 + n * 36 - t * 36) sheet newSheet xs ∙ s .sheet-is;
+        readings-is = s .readings-is;
+        playing = played-on (s .playing) u (λ k. record { bench = e k; readings = take q readings }) refl (omega arith);
+      }
+
+  pub on-reading : (i : ℕ) → Turned log at t q (s .playing .here .f) (Reading i) behind → q < length readings
+      → Between w log pcm₀ sheet₀ readings₀ x₀ dials taps a delays bytes f ram pcm sheet (set readings q (getD bytes i 0)) t (q + 1) behind
+  unfolding play
+  on-reading i u l =
+      let y = getD bytes i 0 in
+      record {
+        sized = s .sized;
+        count = s .count;
+        eight = s .eight;
+        wound = s .wound;
+        fit = s .fit;
+        pcm-is = s .pcm-is;
+        sheet-is = s .sheet-is;
+        readings-is = length-set readings q y ∙ s .readings-is;
+        playing = played-on (s .playing) u (λ k. record { bench = benchNow (partsFrom dials taps a delays bytes f) ram pcm sheet t; readings = one-more readings q y y refl l k }) (omega arith) refl;
+      }
