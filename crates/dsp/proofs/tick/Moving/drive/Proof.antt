@@ -215,7 +215,7 @@ loop2-again c =
     let w = voice-at (c .before .before .before .before .before .before .before .before .before .before .before .before .before .before .before .before .before .before .before .before .before .before .before .before .before .before .before .before .before .before .args .t4) (arrays (l .envelopes) (l .plays) (l .feeds) (l .currents) (l .store)) (l .v) t in
     let slot = midOf at (at + 4 - at) (l .sheet) in
     (omega (arith, t), l .inv .1, lane-shown _ _ _ _ (c .before .before .before .before .before .before .before .before .before .before .before .before .before .before .before .before .before .before .before .loop .i * 36) _ (l .v) (l .sheet) _ (l .delays) (l .bytes) (asSums (l .acc)) at (at + 4) _ _ (l .inv .2) t refl refl (lane-lent (c .before .before .before .before .before .before .before .before .before)) off (y .0)
-    (y .1 ∙ (λ k. added (bit (c .before .before .before .before .before .before .before .before .before .before .before .before .shared .result .eon) (l .v)) (joined (getD slot 0 0) (getD slot 1 0)) (sym w k .«left_vol») (sym w k .«right_vol») (asSums (l .acc)))))
+    (y .1 ∙ (λ k. added (bit (asShared (c .before .before .before .before .before .before .before .before .before .before .before .before .shared .result) .eon) (l .v)) (joined (getD slot 0 0) (getD slot 1 0)) (sym w k .«left_vol») (sym w k .«right_vol») (asSums (l .acc)))))
 
 mul-first : tie.Need-mul-first Inv-loop2 μ-loop2 Inv-loop μ-loop
 mul-first c = let u = c .before .before .before .loop2-test .taken in record { fits = omega (arith, u) }
@@ -630,7 +630,7 @@ sample-is : (c : tie.After-noised Inv-loop2 μ-loop2 Inv-loop μ-loop) → toZ w
 sample-is c =
     let v = c .before .before .before .before .before .before .before .before .before .before .before .before .before .loop2 .v in
     let on = asked (c .before .before .before .before .before .before .before .before .before .before .before .before .before .before .before .shared .result .non) v (c .before .before .before .before .before .before .before .before .before .before .before .before .loop2-test .taken) (c .before .before .before .bit4 .ensures) in
-    landed w16 (c .noised .ok) ∙ c .noised .ensures ∙ (λ k. if sym on k then landed w16 {z = c .before .before .before .before .before .before .before .before .before .before .before .before .before .before .before .shared .result .noise} (c .before .struct-told2 .given .1 .1 .1 .1 .1 .1 .1 .0 .1) k else landed w16 {z = getD (c .before .before .before .before .if3 .currents) v (pos 0)} (c .before .before .noised-arg .given) k)
+    landed w16 (c .noised .ok) ∙ c .noised .ensures ∙ (λ k. if sym on k then landed w16 {z = c .before .before .before .before .before .before .before .before .before .before .before .before .before .before .before .shared .result .noise} (c .before .struct-told2 .given .1 .1 .1 .1 .1 .1 .1 .1 .0 .1) k else landed w16 {z = getD (c .before .before .before .before .if3 .currents) v (pos 0)} (c .before .before .noised-arg .given) k)
 
 scaled-requires : tie.Need-scaled-requires Inv-loop2 μ-loop2 Inv-loop μ-loop
 scaled-requires c κs =
@@ -836,8 +836,7 @@ returns c =
     let parts = partsFrom (a .t4) (a .taps) (arrays (l .envelopes) (l .plays) (l .feeds) (l .currents) (l .store)) (l .delays) (l .bytes) (l .f) in
     let e : benchAt parts (l .ram) (l .pcm) (l .sheet) [] ≡ benchAt parts (l .ram) (d .samples) (d .rows) (drop (l .i * 36) (a .sheet .now)) =
     (λ k. benchAt parts (l .ram) (all-written (d .put-out) e₁ k) (all-written (d .shown) e₂ k) (sym (drop-of-length-le (a .sheet .now) {i = l .i * 36} (omega (arith, e₂))) k)) in
-    (e ∙ d .is ∙ (λ k. ticksOf (a .work) (n k) (benchAt (partsFrom (a .t4) (a .taps) (arrays (c .before .before .before .before .enveloped .ensures k) (c .before .before .before .played .ensures k) (c .before .before .fed .ensures k) (a .currents .now) (a .store .now)) (a .delays .now) (a .bytes .now) (a .self .far)) (a .ram .now) [] [] (a .sheet .now))), bench-fit _ (d .fit))
-
+    (e ∙ d .is ∙ (λ k. ticksOf (a .work) (n k) (benchAt (partsFrom (a .t4) (a .taps) (arrays (c .before .before .before .before .enveloped .ensures k) (c .before .before .before .played .ensures k) (c .before .before .fed .ensures k) (a .currents .now) (a .store .now)) (a .delays .now) (a .bytes .now) (a .self .far)) (a .ram .now) [] [] (a .sheet .now))), bench-fit _ (d .fit), l .inv .1 .envelopes, l .inv .1 .plays, l .inv .1 .feeds)
 
 pub drive-spec : {M : Type 1} → statement M
 drive-spec =
