@@ -124,6 +124,7 @@ driven-spec =
     (λ c κs. search needs)
     (λ c κs. search needs)
     (λ c κs. search needs)
+    (λ c κs. search needs)
     (λ c. search needs)
     dials-of-requires
     (λ c κs. search needs)
@@ -135,7 +136,7 @@ driven-spec =
     (λ c. search needs)
     (λ c. search needs)
     (λ c. search needs)
-    (λ c. search needs)
+    (λ c. sym (c .before .before .before .before .before .before .before .before .before .before .before .before .before .before .before .before .bytes .ok .1 .0 .1))
     drive-requires
     (λ c. search needs)
     (λ c κs. search needs)
