@@ -1,14 +1,14 @@
 -- A tick of the machine: what it keeps, and how its parts make the definition.
-use mathlib.Core.Bool.{Bool, true, false}
+use mathlib.Core.Bool.{Bool, true, false, _&&_}
 use mathlib.Core.List.{List, [], _∷_}
-use mathlib.Core.Path.{_≡_, refl, ap, _∙_}
+use mathlib.Core.Path.{_≡_, refl, sym, ap, _∙_}
 use Prim.Native.Nat.{ℕ, zero, suc, _+_, _/_, _%_, _^_, _≤_, _<_}
 use native.Mathlib.Omega.{arith}
 use native.Mathlib.Nat.{zero-div}
 use borrow.Author.Tests.{ne-eqb}
 use lib.IntN.{ℤ}
 use lib.ListN.{getD, length, length-set, length-map}
-use Rattle.numbers.specs.Choice.{_<?_}
+use Rattle.numbers.specs.Choice.{if_then_else_, _<?_}
 use Rattle.numbers.proofs.Choice.{chosen}
 use Rattle.numbers.specs.Bits.{bit}
 use Rattle.numbers.specs.Listed.{turns}
@@ -105,6 +105,11 @@ mute r =
 
 no-bit : (n : ℕ) → bit 0 n ≡ false
 no-bit n = ne-eqb (0 / 2 ^ n % 2) 1 (λ (e : 0 / 2 ^ n % 2 ≡ 1). let z : 0 / 2 ^ n ≡ 0 = zero-div (2 ^ n) in omega arith)
+
+-- whether a voice is summed for an echo that is worked or not
+pub heard-bit : (echo : Bool) (eon j : ℕ) → (echo && bit eon j) ≡ bit (if echo then eon else 0) j
+heard-bit true eon j = refl
+heard-bit false eon j = sym (no-bit j)
 
 mute-turn : (mask : ℕ) (old : List ℕ) (c : Shared) (ram : List ℕ) (j : ℕ) (r : Round) → turn mask old (heard false c) ram j (mute r) ≡ mute (turn mask old c ram j r)
 unfolding turn turned ownCell cellOf cellAfter waitedOf polledOf added

@@ -11,13 +11,13 @@ use lib.ListN.{getD}
 use lib.Seq.{getD-set-same, set-getD}
 use Rattle.numbers.specs.Unsigned.{wrapped}
 use Rattle.numbers.proofs.Choice.{chosen}
-use Rattle.dsp.specs.With.{moved, withSample, withNibble}
+use Rattle.dsp.specs.With.{moved, withSample}
 use Rattle.dsp.specs.Ram.{entryOf}
 use Rattle.dsp.specs.Envelope.{isOff}
 use Rattle.dsp.specs.Keys.{keyedOff, keyedOn}
 use Rattle.dsp.specs.Voice.{Sounding}
 use Rattle.dsp.specs.Lane.{polledOf}
-use Rattle.dsp.specs.Inside.{asBrr, restored}
+use Rattle.dsp.specs.Inside.{historyOf, asBrr, restored}
 use Rattle.dsp.specs.declared.voice.Voice.{Voice}
 use Rattle.dsp.proofs.lane.polled.Statement.{statement}
 use Rattle.dsp.proofs.lane.polled.Tie as tie
@@ -81,7 +81,7 @@ returns-3 c =
     let off = sym (c .before .before .before .off .ensures) ∙ c .before .before .if2 .left in
     let p = c .keyed-off .ensures in
     let x = getD (a .currents .now) (a .j) (pos 0) in (
-      λ v samples endx e. rw (kon, koff, off) (λ i. sounding endx (moved v (p .0 i) (p .2 i) x (p .3 i) (c .before .released .ensures (v .adsr) i) (withNibble (asBrr (a .p) (a .f) samples) (p .1 i)))),
+      λ v samples endx e. rw (kon, koff, off) (λ i. sounding endx (moved v (p i .«key_on») (p i .«pitch_counter») x (historyOf (p i)) (c .before .released .ensures (v .adsr) i) (asBrr (p i) (a .f) samples))),
       rw kon,
       rw kon (sym (set-getD (a .delays .now) (a .j) 0)),
       rw kon,

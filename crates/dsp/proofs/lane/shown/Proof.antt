@@ -7,20 +7,21 @@ use lib.ListN.{length-set}
 use mir.Syntax.{w8, w16}
 use Rattle.numbers.proofs.Range.{landed}
 use Rattle.dsp.specs.Lane.{putBytes}
+use Rattle.dsp.proofs.Ticks.{heard-bit}
 use Rattle.dsp.proofs.lane.shown.Statement.{statement}
 use Rattle.dsp.proofs.lane.shown.Tie as tie
 
 returns : tie.Need-returns
 unfolding putBytes
 returns c =
-    let s = c .before .before .before .before .before .before .before .before .before .before .before .before .before .before .before .before in
+    let s = c .before .before .before .before .before .before .before .before .before .before .before .before .before .before .before .before .before in
     let a = s .args in
-    let j = c .before .before .before .before .before .before .before .before .before .before .before .joined in
+    let j = c .before .before .before .before .before .before .before .before .before .before .before .before .joined in
     let out = landed w16 {z = j .result} (j .ok) in
-    let eon = rw (mod-eq-of-lt (s .pre .2)) at (c .before .before .before .bit .ensures) in
+    let eon = rw (mod-eq-of-lt (s .pre .2)) at (c .before .before .before .before .bit .ensures) in
     let l = landed w8 {z = a .d .«left_vol»} (c .before .before .struct-told .given .0 .1) in
     let r = landed w8 {z = a .d .«right_vol»} (c .before .struct-told2 .given .1 .0 .1) in
-    (rw (c .before .before .before .before .before .before .put-endx .ensures, c .before .before .before .before .before .before .before .before .before .high .ensures, out, j .ensures), rw (c .added .ensures, eon, out, j .ensures, l, r))
+    (rw (c .before .before .before .before .before .before .before .put-endx .ensures, c .before .before .before .before .before .before .before .before .before .before .high .ensures, out, j .ensures), rw (c .added .ensures, eon, heard-bit (a .c .echo) (a .c .eon) (a .j), out, j .ensures, l, r))
 
 pub shown-spec : {M : Type 1} → statement M
 shown-spec =
@@ -41,5 +42,5 @@ shown-spec =
     (λ c κs. search needs)
     (λ c κs. search needs)
     (λ c κs. search needs)
-    (λ c. c .before .before .before .before .before .before .put-endx .kept .0 ∙ simp length-set)
+    (λ c. c .before .before .before .before .before .before .before .put-endx .kept .0 ∙ simp length-set)
     returns)

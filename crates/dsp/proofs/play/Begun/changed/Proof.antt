@@ -47,7 +47,7 @@ turned c v endx y cut =
 
 returns : tie.Need-returns
 returns c =
-    (λ v endx. turned (c .before .before) v endx (c .cut .result) (c .cut .ensures (v .adsr) ∙ rw (c .before .if2 .taken)), bytes-are (c .before .before .before .before .before))
+    (λ v endx. turned (c .before .before) v endx (c .cut .result) (ap (asEnvelope (v .adsr)) (c .cut .ensures) ∙ rw (c .before .if2 .taken)), bytes-are (c .before .before .before .before .before))
 
 returns-2 : tie.Need-returns-2
 returns-2 c =

@@ -31,7 +31,7 @@ inArrays c =
     let delays = currents .before in
     partsIn (record { far = far .far .result; envelopes = c .before .before .envelopes-of .result; plays = c .before .plays-of .result; feeds = c .feeds-of .result })
     (dials .dials-of .result)
-    (begun c .args .self .«fir_coeff»)
+    (delays .before .before .before .taps .result)
     (currents .currents-of .result)
     (delays .delays .result)
     (store .store-of .result)
@@ -54,7 +54,7 @@ taken c =
       registers = delays .before .before .bytes .ensures i;
       voices = voices i;
       delays = delays .delays .ensures i;
-      taps = begun c .args .self .«fir_coeff»;
+      taps = delays .before .before .before .taps .ensures i;
       left = far .far .ensures .1 i;
       right = far .far .ensures .2 i;
       globals = far .far .ensures .0 i;
@@ -102,7 +102,7 @@ returns c =
       registers = d 0 .parts .registers;
       voices = c .before .voices-of .ensures i;
       delays = d 0 .parts .delays;
-      taps = a .self .«fir_coeff»;
+      taps = d 0 .parts .taps;
       left = k .far .left;
       right = k .far .right;
       globals = asGlobals (k .far .glob);
@@ -124,6 +124,7 @@ driven-spec =
     (λ c κs. search needs)
     (λ c κs. search needs)
     (λ c κs. search needs)
+    (λ c κs. search needs)
     (λ c. search needs)
     dials-of-requires
     (λ c κs. search needs)
@@ -135,7 +136,7 @@ driven-spec =
     (λ c. search needs)
     (λ c. search needs)
     (λ c. search needs)
-    (λ c. search needs)
+    (λ c. sym (c .before .before .before .before .before .before .before .before .before .before .before .before .before .before .before .before .bytes .ok .1 .0 .1))
     drive-requires
     (λ c. search needs)
     (λ c κs. search needs)

@@ -7,7 +7,7 @@ use Rattle.dsp.proofs.registers.Glob.shared.Tie as tie
 
 returns : tie.Need-returns
 returns c bytes ek ed en =
-    rw (c .before .before .before .polled-koff .ensures, c .before .before .polled-kon .ensures, c .before .heard-eon .ensures, landed w16 (c .sample .ok), c .sample .ensures, ← en, ek, ed)
+    rw (c .before .before .polled-koff .ensures, c .before .polled-kon .ensures, landed w16 (c .sample .ok), c .sample .ensures, ← en, ek, ed)
 
 pub shared-spec : {M : Type 1} → statement M
-shared-spec = tie.close (tie.spec (search needs) (search needs) (search needs) (search needs) returns)
+shared-spec = tie.close (tie.spec (search needs) (search needs) (search needs) returns)

@@ -130,29 +130,30 @@ loop-holds : tie.Need-loop-holds Inv-loop2 μ-loop2 Inv-loop μ-loop
 unfolding ticksOf
 loop-holds c =
     let p = c .before .before .before .before .before .before .before .before .before .before .pre in
-    let h = p .11 in
-    (search needs,
-    record { envelopes = envelopes-sized (c .before .before); plays = plays-sized (c .before); feeds = feeds-sized c; currents = p .2; store = p .4 },
-    record {
-      samples = [];
-      rows = [];
-      fit =
-          record {
-            ram = p .6;
-            round =
-                record {
-                  bytes = p .5;
-                  count = voices-count _ _;
-                  waits = p .3;
-                  voices = subst (λ (vs : List Voice). (n : ℕ) → FitVoice (getD vs n noVoice)) (sym (first-voices c)) (h .voices);
-                  delays = h .delays;
-                };
-            globals = h .globals;
-          };
-      is = refl {a = first c};
-      put-out = unwritten _;
-      shown = unwritten _;
-    })
+    let h = p .11 in (
+      search needs,
+      record { envelopes = envelopes-sized (c .before .before); plays = plays-sized (c .before); feeds = feeds-sized c; currents = p .2; store = p .4 },
+      record {
+        samples = [];
+        rows = [];
+        fit =
+            record {
+              ram = p .6;
+              round =
+                  record {
+                    bytes = p .5;
+                    count = voices-count _ _;
+                    waits = p .3;
+                    voices = subst (λ (vs : List Voice). (n : ℕ) → FitVoice (getD vs n noVoice)) (sym (first-voices c)) (h .voices);
+                    delays = h .delays;
+                  };
+              globals = h .globals;
+            };
+        is = refl {a = first c};
+        put-out = unwritten _;
+        shown = unwritten _;
+      },
+    )
 
 ticked-requires : tie.Need-ticked-requires Inv-loop2 μ-loop2 Inv-loop μ-loop
 ticked-requires c κs = (c .before .before .before .before .before .before .before .before .before .before .before .before .before .pre .1, c .before .before .loop .inv .2 .fit .globals)
@@ -213,9 +214,12 @@ loop2-again c =
     let off = asked (c .before .before .before .before .before .before .before .before .before .before .before .before .before .before .before .before .before .before .before .before .before .before .before .before .before .before .before .before .before .before .args .work .voices) (l .v) t (c .before .before .before .before .before .before .before .bit .ensures) ∙ not-true _ (c .before .before .before .before .before .before .if1 .taken) in
     let y = c .before .before .shown .ensures in
     let w = voice-at (c .before .before .before .before .before .before .before .before .before .before .before .before .before .before .before .before .before .before .before .before .before .before .before .before .before .before .before .before .before .before .args .t4) (arrays (l .envelopes) (l .plays) (l .feeds) (l .currents) (l .store)) (l .v) t in
-    let slot = midOf at (at + 4 - at) (l .sheet) in
-    (omega (arith, t), l .inv .1, lane-shown _ _ _ _ (c .before .before .before .before .before .before .before .before .before .before .before .before .before .before .before .before .before .before .before .loop .i * 36) _ (l .v) (l .sheet) _ (l .delays) (l .bytes) (asSums (l .acc)) at (at + 4) _ _ (l .inv .2) t refl refl (lane-lent (c .before .before .before .before .before .before .before .before .before)) off (y .0)
-    (y .1 ∙ (λ k. added (bit (c .before .before .before .before .before .before .before .before .before .before .before .before .shared .result .eon) (l .v)) (joined (getD slot 0 0) (getD slot 1 0)) (sym w k .«left_vol») (sym w k .«right_vol») (asSums (l .acc)))))
+    let slot = midOf at (at + 4 - at) (l .sheet) in (
+      omega (arith, t),
+      l .inv .1,
+      lane-shown _ _ _ _ (c .before .before .before .before .before .before .before .before .before .before .before .before .before .before .before .before .before .before .before .loop .i * 36) _ (l .v) (l .sheet) _ (l .delays) (l .bytes) (asSums (l .acc)) at (at + 4) _ _ (l .inv .2) t refl refl (lane-lent (c .before .before .before .before .before .before .before .before .before)) off (y .0)
+          (y .1 ∙ (λ k. added (bit (asShared (c .before .before .before .before .before .before .before .before .before .before .before .before .shared .result) .eon) (l .v)) (joined (getD slot 0 0) (getD slot 1 0)) (sym w k .«left_vol») (sym w k .«right_vol») (asSums (l .acc)))),
+    )
 
 mul-first : tie.Need-mul-first Inv-loop2 μ-loop2 Inv-loop μ-loop
 mul-first c = let u = c .before .before .before .loop2-test .taken in record { fits = omega (arith, u) }
@@ -358,9 +362,10 @@ part-advanced-end c = samples-room (c .before .before .before .before .before .b
 
 advanced-requires : tie.Need-advanced-requires Inv-loop2 μ-loop2 Inv-loop μ-loop
 advanced-requires c κs =
-    let v = c .before .before .before .before .before .before .before .before .before .before .before .before .before .before .before .before .before .before .before .before .before .loop2 .v in
-    (mid-len (v * 16) (v * 16 + 16) (c .before .before .before .before .before .before .before .before .before .before .before .before .before .before .before .before .before .before .before .before .before .loop2 .store) (samples-room (c .before .before .before .before .before .before .before .before .before .before .before .before .before .before .before .before .before .before .before .before)) ∙ part-span v,
-    brr-fit (voiceAt (c .before .before .before .before .before .before .before .before .before .before .before .before .before .before .before .before .before .before .before .before .before .before .before .before .before .before .before .before .before .before .before .before .before .before .before .before .before .before .before .before .before .args .t4) (arrays (c .before .before .before .before .before .before .before .before .before .before .before .before .before .before .if2 .envelopes) (c .before .before .before .before .before .before .before .before .before .before .before .before .before .before .if2 .plays) (c .before .before .before .before .before .before .before .before .before .before .before .before .before .before .if2 .feeds) (c .before .before .before .before .before .before .before .before .before .before .before .before .before .before .if2 .currents) (c .before .before .before .before .before .before .before .before .before .before .before .before .before .before .before .before .before .before .before .before .before .loop2 .store)) v) (polled-fit (c .before .before .before .before .before .before .before .before .before .before .before .before .before .before)) .0)
+    let v = c .before .before .before .before .before .before .before .before .before .before .before .before .before .before .before .before .before .before .before .before .before .loop2 .v in (
+      mid-len (v * 16) (v * 16 + 16) (c .before .before .before .before .before .before .before .before .before .before .before .before .before .before .before .before .before .before .before .before .before .loop2 .store) (samples-room (c .before .before .before .before .before .before .before .before .before .before .before .before .before .before .before .before .before .before .before .before)) ∙ part-span v,
+      brr-fit (voiceAt (c .before .before .before .before .before .before .before .before .before .before .before .before .before .before .before .before .before .before .before .before .before .before .before .before .before .before .before .before .before .before .before .before .before .before .before .before .before .before .before .before .before .args .t4) (arrays (c .before .before .before .before .before .before .before .before .before .before .before .before .before .before .if2 .envelopes) (c .before .before .before .before .before .before .before .before .before .before .before .before .before .before .if2 .plays) (c .before .before .before .before .before .before .before .before .before .before .before .before .before .before .if2 .feeds) (c .before .before .before .before .before .before .before .before .before .before .before .before .before .before .if2 .currents) (c .before .before .before .before .before .before .before .before .before .before .before .before .before .before .before .before .before .before .before .before .before .loop2 .store)) v) (polled-fit (c .before .before .before .before .before .before .before .before .before .before .before .before .before .before)) .0,
+    )
 
 -- the arrays behind the poll, and the voice with its envelope ticked
 abbrev polledArrays : (c : tie.Joined2 Inv-loop2 μ-loop2 Inv-loop μ-loop) → Arrays
@@ -461,7 +466,6 @@ after-change c =
 
 mul-envelopes-3 : tie.Need-mul-envelopes-3 Inv-loop2 μ-loop2 Inv-loop μ-loop
 mul-envelopes-3 c = let u = c .before .before .before .before .before .before .before .before .before .before .before .before .before .before .before .before .before .before .before .before .before .before .before .before .before .before .before .before .before .before .before .before .before .loop2-test .taken in record { fits = omega (arith, u) }
-
 
 array-set-from-envelopes-3 : tie.Need-array-set-from-envelopes-3 Inv-loop2 μ-loop2 Inv-loop μ-loop
 array-set-from-envelopes-3 c = let u = c .before .before .before .before .before .before .before .before .before .before .before .before .before .before .before .before .before .before .before .before .before .before .before .before .before .before .before .before .before .before .before .before .before .loop2-test .taken in omega (arith, u)
@@ -630,7 +634,7 @@ sample-is : (c : tie.After-noised Inv-loop2 μ-loop2 Inv-loop μ-loop) → toZ w
 sample-is c =
     let v = c .before .before .before .before .before .before .before .before .before .before .before .before .before .loop2 .v in
     let on = asked (c .before .before .before .before .before .before .before .before .before .before .before .before .before .before .before .shared .result .non) v (c .before .before .before .before .before .before .before .before .before .before .before .before .loop2-test .taken) (c .before .before .before .bit4 .ensures) in
-    landed w16 (c .noised .ok) ∙ c .noised .ensures ∙ (λ k. if sym on k then landed w16 {z = c .before .before .before .before .before .before .before .before .before .before .before .before .before .before .before .shared .result .noise} (c .before .struct-told2 .given .1 .1 .1 .1 .1 .1 .1 .0 .1) k else landed w16 {z = getD (c .before .before .before .before .if3 .currents) v (pos 0)} (c .before .before .noised-arg .given) k)
+    landed w16 (c .noised .ok) ∙ c .noised .ensures ∙ (λ k. if sym on k then landed w16 {z = c .before .before .before .before .before .before .before .before .before .before .before .before .before .before .before .shared .result .noise} (c .before .struct-told2 .given .1 .1 .1 .1 .1 .1 .1 .1 .0 .1) k else landed w16 {z = getD (c .before .before .before .before .if3 .currents) v (pos 0)} (c .before .before .noised-arg .given) k)
 
 scaled-requires : tie.Need-scaled-requires Inv-loop2 μ-loop2 Inv-loop μ-loop
 scaled-requires c κs =
@@ -752,9 +756,11 @@ loop-again c =
     let z₂ = subst (λ (q : Sums). Lanes (w .voices) sh (s .ram) (s .sheet) (s .i * 36) (roundOf old (s .delays) (s .bytes) q []) 8 (l .sheet) voices (l .delays) (l .bytes) (asSums (l .acc))) (c .before .before .before .before .before .before .before .before .before .before .before .before .new .ensures) z in
     let x = y .0 ∙ (λ k. echoLane (w .echo) (asGlobals (h .glob)) (c .before .before .before .before .before .before .before .before .before .before .before .before .before .before .before .before .before .before .before .before .before .before .before .before .before .before .before .before .before .before .before .args .taps) (c .before .before .before .before .before .before .before .before .before .before .before .before .before .before .before .before .before .ticked .ensures .1 k) (c .before .before .before .before .before .before .before .before .before .before .before .before .before .before .before .before .before .ticked .ensures .2 k) (s .ram) (asSums (l .acc) .input) (midOf a (a + 4 - a) (l .sheet))) in
     let c₀ = c .before .before .before .before .before .before .before .before .before .before .before .before .before .shared .ensures (s .bytes) refl refl (ap (λ (g : Globals). g .noise) (c .before .before .before .before .before .before .before .before .before .before .before .before .before .before .before .before .before .ticked .ensures .0)) in
-    let t : s .i < c .before .before .before .before .before .before .before .before .before .before .before .before .before .before .before .before .before .before .before .before .before .before .before .before .before .before .before .before .before .before .before .args .n = c .before .before .before .before .before .before .before .before .before .before .before .before .before .before .before .before .before .before .before .loop-test .taken in
-    (omega (arith, t), l .inv .1,
-    tick-on w _ _ (first (c .before .before .before .before .before .before .before .before .before .before .before .before .before .before .before .before .before .before .before .before .before)) (s .i) (s .pcm) (s .sheet) _ (s .ram) _ sh (l .sheet) voices (l .delays) (l .bytes) (asSums (l .acc)) a (a + 4) o (o + 4) _ _ (s .inv .2) (c .before .before .before .before .before .before .before .before .before .before .before .before .before .before .before .before .before .ticked .ensures .0) c₀ z₂ refl refl (echo-lent (c .before .before .before .before .before .before .before .before .before .before)) x refl refl (y .1 ∙ ap (λ (e : EchoLane). frameOf (masterOf (e .echo .globals) (asSums (l .acc) .dry))) (sym (y .0))))
+    let t : s .i < c .before .before .before .before .before .before .before .before .before .before .before .before .before .before .before .before .before .before .before .before .before .before .before .before .before .before .before .before .before .before .before .args .n = c .before .before .before .before .before .before .before .before .before .before .before .before .before .before .before .before .before .before .before .loop-test .taken in (
+      omega (arith, t),
+      l .inv .1,
+      tick-on w _ _ (first (c .before .before .before .before .before .before .before .before .before .before .before .before .before .before .before .before .before .before .before .before .before)) (s .i) (s .pcm) (s .sheet) _ (s .ram) _ sh (l .sheet) voices (l .delays) (l .bytes) (asSums (l .acc)) a (a + 4) o (o + 4) _ _ (s .inv .2) (c .before .before .before .before .before .before .before .before .before .before .before .before .before .before .before .before .before .ticked .ensures .0) c₀ z₂ refl refl (echo-lent (c .before .before .before .before .before .before .before .before .before .before)) x refl refl (y .1 ∙ ap (λ (e : EchoLane). frameOf (masterOf (e .echo .globals) (asSums (l .acc) .dry))) (sym (y .0))),
+    )
 
 enveloped-requires : tie.Need-enveloped-requires Inv-loop2 μ-loop2 Inv-loop μ-loop
 enveloped-requires c κs = tt
@@ -836,8 +842,7 @@ returns c =
     let parts = partsFrom (a .t4) (a .taps) (arrays (l .envelopes) (l .plays) (l .feeds) (l .currents) (l .store)) (l .delays) (l .bytes) (l .f) in
     let e : benchAt parts (l .ram) (l .pcm) (l .sheet) [] ≡ benchAt parts (l .ram) (d .samples) (d .rows) (drop (l .i * 36) (a .sheet .now)) =
     (λ k. benchAt parts (l .ram) (all-written (d .put-out) e₁ k) (all-written (d .shown) e₂ k) (sym (drop-of-length-le (a .sheet .now) {i = l .i * 36} (omega (arith, e₂))) k)) in
-    (e ∙ d .is ∙ (λ k. ticksOf (a .work) (n k) (benchAt (partsFrom (a .t4) (a .taps) (arrays (c .before .before .before .before .enveloped .ensures k) (c .before .before .before .played .ensures k) (c .before .before .fed .ensures k) (a .currents .now) (a .store .now)) (a .delays .now) (a .bytes .now) (a .self .far)) (a .ram .now) [] [] (a .sheet .now))), bench-fit _ (d .fit))
-
+    (e ∙ d .is ∙ (λ k. ticksOf (a .work) (n k) (benchAt (partsFrom (a .t4) (a .taps) (arrays (c .before .before .before .before .enveloped .ensures k) (c .before .before .before .played .ensures k) (c .before .before .fed .ensures k) (a .currents .now) (a .store .now)) (a .delays .now) (a .bytes .now) (a .self .far)) (a .ram .now) [] [] (a .sheet .now))), bench-fit _ (d .fit), l .inv .1 .envelopes, l .inv .1 .plays, l .inv .1 .feeds)
 
 pub drive-spec : {M : Type 1} → statement M
 drive-spec =
