@@ -22,3 +22,4 @@ pub mod Apart
 pub mod Made
 pub mod Steps
 pub mod Turning
+pub mod Playing
