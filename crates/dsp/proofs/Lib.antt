@@ -23,3 +23,4 @@ pub mod Made
 pub mod Steps
 pub mod Turning
 pub mod Logs
+pub mod Playing
