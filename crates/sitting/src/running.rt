@@ -1,8 +1,5 @@
 // A run of a log from a record, or from the power-on record.
 ghost use mathlib.Core.Path.{_≡_};
-ghost use mathlib.Core.Bool.{_&&_};
-ghost use Prim.Native.Nat.{_*_, _≤_};
-ghost use Rattle.numbers.specs.Choice.{_=?_};
 ghost use Rattle.dsp.specs.PowerOn.{newDsp};
 ghost use Rattle.dsp.specs.Tick.{everything};
 ghost use Rattle.dsp.specs.Run.{Outcome, runWith, runOf};
