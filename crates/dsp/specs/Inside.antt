@@ -1,6 +1,6 @@
 -- How the contracts of inner functions read the code's structs, into the records of the definitions, and what the code does at once that
 -- the definitions do one by one. Contracts and proofs alone cite this file; no definition does, so that none moves when the inside does.
-use mathlib.Core.Bool.{Bool, false, not, _&&_, _||_}
+use mathlib.Core.Bool.{Bool, false, _||_}
 use mathlib.Core.List.{List, [], _∷_}
 use mathlib.Core.Path.{_≡_}
 use Prim.Native.Nat.{ℕ, zero, suc, _+_, _-_, _*_, _%_}
@@ -15,7 +15,7 @@ use Rattle.log.specs.Measure.{totalOf}
 use Rattle.log.specs.declared.Measured.{Measured}
 use Rattle.dsp.specs.Noise.{Noise}
 use Rattle.dsp.specs.Machine.{Globals, Parts, together}
-use Rattle.dsp.specs.With.{withState, moved, withPosition, withNibble}
+use Rattle.dsp.specs.With.{withState, moved, withPosition}
 use Rattle.dsp.specs.Ram.{wordAt}
 use Rattle.dsp.specs.Brr.{DecodedBlock}
 use Rattle.dsp.specs.Voice.{Sounding, PitchSource, plain, modulatedBy, positionOf, samplesTaken, nextAddress, pushedNext}

@@ -66,7 +66,7 @@ pub struct Dial {
     pub settings: Settings,
 }
 
-// A voice's three records after a poll or a block change.
+// A voice's three records, before and after a poll, and after a block change.
 pub struct Turned {
     pub envelope: Envelope,
     pub play: Play,
@@ -361,47 +361,46 @@ pub(crate) fn shown(d: Dial, c: Shared, j: usize, acc: Acc, bytes: &mut [u8], sl
     acc.added(c.echo & bit(c.eon, j), out, d.left_vol, d.right_vol)
 }
 
-// The poll of voice j. KON: all playback state starts anew, and the poll tick is the first of five that the voice does not step in. KOFF:
-// release, unless the phase is Off.
-pub(crate) fn polled(
-    e: Envelope,
-    p: Play,
-    f: Feed,
-    c: Shared,
-    j: usize,
-    srcn: u8,
-    currents: &mut [i16],
-    delays: &mut [u8],
-    bytes: &mut [u8],
-) -> Turned
-    requires { ⌜ (length (now currents) ≡ 8) × (length (now delays) ≡ 8) × (length (now bytes) ≡ 128) × (j < 8) × ((bit (c .koff) j || bit (c .kon) j) ≡ true) ⌝ }
-    ensures { λ r. ⌜ ((v : Voice) (samples : List ℤ) (endx : Bool) → v .srcn ≡ srcn → asSounding (withSample v (getD (now (currents .exit)) j (pos 0))) (r .envelope) (r .play) (r .feed) samples (if bit (c .kon) j then false else endx) ≡ polledOf (asShared c) j (asSounding (withSample v (getD (now (currents .entry)) j (pos 0))) e p f samples endx .voice) endx) × (now (currents .exit) ≡ (if bit (c .kon) j then set (now (currents .entry)) j (pos 0) else now (currents .entry))) × (now (delays .exit) ≡ set (now (delays .entry)) j (polledDelay (bit (c .kon) j) (getD (now (delays .entry)) j 0))) × (now (bytes .exit) ≡ (if bit (c .kon) j then putEndx j false (now (bytes .entry)) else now (bytes .entry))) ⌝ }
-{
-    if bit(c.kon, j) {
-        currents[j] = 0;
-        delays[j] = 5;
-        put_endx(bytes, j, false);
-        let envelope = Envelope::begun();
-        let play = Play::keyed_on();
-        let feed = Feed::begun(c.dir_base, srcn);
-        Turned {
-            envelope,
-            play,
-            feed,
-        }
-    } else if e.off() {
-        Turned {
-            envelope: e,
-            play: p,
-            feed: f,
-        }
-    } else {
-        let envelope = e.released();
-        let play = p.keyed_off();
-        Turned {
-            envelope,
-            play,
-            feed: f,
+impl Turned {
+    // The poll of voice j. KON: all playback state starts anew, and the poll tick is the first of five that the voice does not step in.
+    // KOFF: release, unless the phase is Off.
+    pub(crate) fn polled(
+        self,
+        c: Shared,
+        j: usize,
+        srcn: u8,
+        currents: &mut [i16],
+        delays: &mut [u8],
+        bytes: &mut [u8],
+    ) -> Self
+        requires { ⌜ (length (now currents) ≡ 8) × (length (now delays) ≡ 8) × (length (now bytes) ≡ 128) × (j < 8) × ((bit (c .koff) j || bit (c .kon) j) ≡ true) ⌝ }
+        ensures { λ r. ⌜ ((v : Voice) (samples : List ℤ) (endx : Bool) → v .srcn ≡ srcn → asSounding (withSample v (getD (now (currents .exit)) j (pos 0))) (r .envelope) (r .play) (r .feed) samples (if bit (c .kon) j then false else endx) ≡ polledOf (asShared c) j (asSounding (withSample v (getD (now (currents .entry)) j (pos 0))) (self .envelope) (self .play) (self .feed) samples endx .voice) endx) × (now (currents .exit) ≡ (if bit (c .kon) j then set (now (currents .entry)) j (pos 0) else now (currents .entry))) × (now (delays .exit) ≡ set (now (delays .entry)) j (polledDelay (bit (c .kon) j) (getD (now (delays .entry)) j 0))) × (now (bytes .exit) ≡ (if bit (c .kon) j then putEndx j false (now (bytes .entry)) else now (bytes .entry))) ⌝ }
+    {
+        let e = self.envelope;
+        if bit(c.kon, j) {
+            currents[j] = 0;
+            delays[j] = 5;
+            put_endx(bytes, j, false);
+            let envelope = Envelope::begun();
+            let play = Play::keyed_on();
+            let feed = Feed::begun(c.dir_base, srcn);
+            Turned {
+                envelope,
+                play,
+                feed,
+            }
+        } else if e.off() {
+            self
+        } else {
+            let p = self.play;
+            let feed = self.feed;
+            let envelope = e.released();
+            let play = p.keyed_off();
+            Turned {
+                envelope,
+                play,
+                feed,
+            }
         }
     }
 }

@@ -19,9 +19,9 @@ use crate::echo::put_pair;
 use crate::lane::Acc;
 use crate::lane::Dial;
 use crate::lane::Shared;
+use crate::lane::Turned;
 use crate::lane::closed;
 use crate::lane::noised;
-use crate::lane::polled;
 use crate::lane::shown;
 use crate::lane::source_of;
 use crate::mix::Stereo;
@@ -230,7 +230,12 @@ impl Moving {
                     let e0 = envelopes[v];
                     let p0 = plays[v];
                     let y0 = feeds[v];
-                    let t = polled(e0, p0, y0, c, v, d.srcn, currents, delays, bytes);
+                    let t0 = Turned {
+                        envelope: e0,
+                        play: p0,
+                        feed: y0,
+                    };
+                    let t = t0.polled(c, v, d.srcn, currents, delays, bytes);
                     let e = t.envelope;
                     let p = t.play;
                     let y = t.feed;

@@ -183,11 +183,20 @@ drive-requires c κs =
     let l = c .before .before .before .before .before .before .before .before .before .before .before .before .before .before .before .before .loop in
     let i = l .inv in
     let n = c .before .before .before .before .before .before .before .before .before .before .found3 .given .0 .0 in
-    let m = fitting (c .before .before .before .before .before .before .before .before .before) in
-    (c .before .before .before .before .before .before .before .before .before .before .before .before .before .before .before .before .before .before .before .before .before .before .before .before .before .before .before .before .before .before .gauss-table .ensures, c .before .before .before .before .before .before .before .before .before .before .before .before .before .before .before .before .before .before .before .before .before .before .before .before .before .before .before .before .before .rate-table .ensures, i .sized .currents, i .fit .round .waits, i .sized .store, i .fit .round .bytes, i .fit .ram, omega (arith, m .0),
-    mid-len (l .ticks * 4) (l .ticks * 4 + n * 4) (l .pcm) (m .1) ∙ omega arith,
-    mid-len (l .ticks * 36) (l .ticks * 36 + n * 36) (l .sheet) (m .2) ∙ omega arith,
-    i .wound, bench-fit _ (i .fit))
+    let m = fitting (c .before .before .before .before .before .before .before .before .before) in (
+      c .before .before .before .before .before .before .before .before .before .before .before .before .before .before .before .before .before .before .before .before .before .before .before .before .before .before .before .before .before .before .gauss-table .ensures,
+      c .before .before .before .before .before .before .before .before .before .before .before .before .before .before .before .before .before .before .before .before .before .before .before .before .before .before .before .before .before .rate-table .ensures,
+      i .sized .currents,
+      i .fit .round .waits,
+      i .sized .store,
+      i .fit .round .bytes,
+      i .fit .ram,
+      omega (arith, m .0),
+      mid-len (l .ticks * 4) (l .ticks * 4 + n * 4) (l .pcm) (m .1) ∙ omega arith,
+      mid-len (l .ticks * 36) (l .ticks * 36 + n * 36) (l .sheet) (m .2) ∙ omega arith,
+      i .wound,
+      bench-fit _ (i .fit),
+    )
 
 loop-again-3 : tie.Need-loop-again-3 Inv-loop μ-loop
 loop-again-3 c =
@@ -390,7 +399,6 @@ readings-few c = search needs
 
 add-said : tie.Need-add-said Inv-loop μ-loop
 add-said c = let m = rw (c .before .found4 .given .1) at (has (c .before .before .before) .4) in let e = c .before .before .before .before .before .before .before .loop .inv .readings-is in let g = readings-few (c .before .before .before .before .before .before .before .before .before .before .before .before .before .before .before .before .before .before .before .before .before .before) in record { fits = omega (arith, m, e, g) }
-
 
 pub play-all-spec : {M : Type 1} → statement M
 play-all-spec =

@@ -20,7 +20,7 @@ use Rattle.numbers.proofs.Parts.{unwritten, sized, all-written}
 use Rattle.numbers.specs.Bits.{bit}
 use Rattle.numbers.specs.Choice.{if_then_else_, _=?_}
 use Rattle.sound.specs.Sound.{joined}
-use Rattle.dsp.specs.Machine.{Globals, Parts, noVoice}
+use Rattle.dsp.specs.Machine.{Globals, noVoice}
 use Rattle.dsp.specs.Fit.{FitAdsr, FitGlobals, FitVoice, Fit}
 use Rattle.dsp.specs.Envelope.{isOff}
 use Rattle.dsp.specs.Voice.{Sounding, PitchSource, decodedAt}
@@ -30,8 +30,6 @@ use Rattle.dsp.specs.Echo.{EchoLane, echoLane}
 use Rattle.dsp.specs.Tick.{globalsTick, frameOf}
 use Rattle.dsp.specs.Ticks.{Bench, ticksOf}
 use Rattle.dsp.specs.Inside.{asSource, asBrr, asSounding, begunOf, dueOf, restLeft, blockAddress, goneOn, asShared, asSums, asGlobals, noEnvelope, noPlay, noFeed, samplesAt, voicesIn}
-use Rattle.dsp.specs.declared.lane.Dial.{Dial}
-use Rattle.dsp.specs.declared.tick.Far.{Far}
 use Rattle.dsp.specs.declared.voice.Voice.{Voice}
 use Rattle.dsp.proofs.Fits.{adsr-fit, brr-fit, level-fit}
 use Rattle.dsp.proofs.Pitch.{seven}
@@ -39,7 +37,7 @@ use Rattle.dsp.proofs.Samples.{onceOf, tick-once}
 use Rattle.dsp.proofs.Store.{part-span}
 use Rattle.dsp.proofs.Ticks.{globals-kept, bench-fit}
 use Rattle.dsp.proofs.Drives.{roundOf, Lanes, lanes-first, lane-shown, lanes-sized, benchAt, Driven, tick-on}
-use Rattle.dsp.proofs.Apart.{Arrays, arrays, Sized, voiceAt, voicesFrom, voices-count, voice-at}
+use Rattle.dsp.proofs.Apart.{Arrays, arrays, Sized, voiceAt, voicesFrom, voices-count, voice-at, partsFrom}
 use Rattle.dsp.proofs.Lanes.{fits}
 use Rattle.dsp.proofs.Moves.{polled-keeps, played-keeps, waited-keeps}
 use Rattle.dsp.proofs.Plays.{Low, low}
@@ -47,10 +45,6 @@ use Rattle.dsp.proofs.Envelopes.{fit-kept-envelope}
 use Rattle.dsp.proofs.Turning.{sampleNow, settled-sized, lane-worked, polledAt, waitAt, Stands, Waited, skips, idles, sounds, in-its-block, past-its-block, Moment, moment, Polled, not-polled, is-polled}
 use Rattle.dsp.proofs.tick.Moving.drive.Statement.{statement}
 use Rattle.dsp.proofs.tick.Moving.drive.Tie as tie
-
-abbrev partsFrom : List Dial → List ℤ → Arrays → List ℕ → List ℕ → Far → Parts
-partsFrom dials taps a delays bytes f =
-    record { registers = bytes; voices = voicesFrom dials a; delays = delays; taps = taps; left = f .left; right = f .right; globals = asGlobals (f .glob) }
 
 abbrev Inv-loop2 : tie.InvT-loop2
 Inv-loop2 work n taps table rates currents₀ delays₀ store₀ bytes₀ ram pcm sheet₀ dials f envelopes₀ plays₀ feeds₀ i c acc₀ v₀ currents delays store bytes sheet envelopes plays feeds acc v =
@@ -497,8 +491,8 @@ array-copy-out-r c = let u = c .before .before .before .before .before .before .
 sounded-requires : tie.Need-sounded-requires Inv-loop2 μ-loop2 Inv-loop μ-loop
 sounded-requires c κs = c .before .before .before .before .before .before .before .before .before .before .before .before .before .before .before .before .before .before .before .before .before .before .before .before .before .before .before .before .before .before .before .before .before .before .before .before .before .before .before .before .before .before .before .before .before .before .pre .0
 
-mul-t121 : tie.Need-mul-t121 Inv-loop2 μ-loop2 Inv-loop μ-loop
-mul-t121 c = let u = c .before .before .before .before .before .before .before .before .before .before .before .before .before .before .before .before .before .before .before .before .before .before .before .before .before .before .loop2-test .taken in record { fits = omega (arith, u) }
+current-fits : tie.Need-mul-t122 Inv-loop2 μ-loop2 Inv-loop μ-loop
+current-fits c = let u = c .before .before .before .before .before .before .before .before .before .before .before .before .before .before .before .before .before .before .before .before .before .before .before .before .before .before .loop2-test .taken in record { fits = omega (arith, u) }
 
 slice-set-from-currents : tie.Need-slice-set-from-currents Inv-loop2 μ-loop2 Inv-loop μ-loop
 slice-set-from-currents c = let u = c .before .before .before .before .before .before .before .before .before .before .before .before .before .before .before .before .before .before .before .before .before .before .before .before .before .before .loop2-test .taken in let z = after-poll (c .before .before .before .before .before .before .before .before .before .before .before .before .before .before .before .before .before .before .before .before) .stands .sized .currents in omega (arith, u, z)
@@ -928,7 +922,7 @@ drive-spec =
     mul-r
     array-copy-out-r
     sounded-requires
-    mul-t121
+    current-fits
     slice-set-from-currents
     cast-bytes
     mul-bytes

@@ -19,8 +19,8 @@ use Rattle.dsp.specs.Voice.{Sounding}
 use Rattle.dsp.specs.Lane.{polledOf}
 use Rattle.dsp.specs.Inside.{historyOf, asBrr, restored}
 use Rattle.dsp.specs.declared.voice.Voice.{Voice}
-use Rattle.dsp.proofs.lane.polled.Statement.{statement}
-use Rattle.dsp.proofs.lane.polled.Tie as tie
+use Rattle.dsp.proofs.lane.Turned.polled.Statement.{statement}
+use Rattle.dsp.proofs.lane.Turned.polled.Tie as tie
 
 -- a key-on overwrites what KOFF changed
 on-over-off : (b : Bool) (dir : ℕ) (v : Voice) → keyedOn true dir (keyedOff b v) ≡ keyedOn true dir v
@@ -32,13 +32,13 @@ sounding endx v = record { voice = v; endx = endx }
 
 -- the three records that the code makes anew
 anew : (c : tie.After-begun2) (v : Voice) (x : ℤ) (samples : List ℤ)
-    → let a = c .before .before .before .before .before .before .before .before .before .before .before .args in
+    → let a = c .before .before .before .before .before .before .before .before .before .before .before .before .args in
     v .srcn ≡ a .srcn
     → restored (withSample v (pos 0)) (c .before .before .begun .result) (c .before .keyed-on .result) (c .begun2 .result) (pos 0) samples
-    ≡ keyedOn true (a .c .«dir_base») (restored (withSample v x) (a .e) (a .p) (a .f) x samples)
+    ≡ keyedOn true (a .c .«dir_base») (restored (withSample v x) (a .self .envelope) (a .self .play) (a .self .feed) x samples)
 unfolding keyedOn
 anew c v x samples e =
-    let a = c .before .before .before .before .before .before .before .before .before .before .before .args in
+    let a = c .before .before .before .before .before .before .before .before .before .before .before .before .args in
     let p = c .before .keyed-on .ensures in
     let f = c .begun2 .ensures in
     let addr = f .0 ∙ ap (λ (n : ℕ). wrapped (entryOf (a .c .«dir_base») n)) (sym e) in
@@ -48,7 +48,7 @@ anew c v x samples e =
 returns : tie.Need-returns
 unfolding polledOf
 returns c =
-    let s = c .before .before .before .before .before .before .before .before .before .before .before in
+    let s = c .before .before .before .before .before .before .before .before .before .before .before .before in
     let a = s .args in
     let kon = sym (rw (mod-eq-of-lt (s .pre .3)) at (c .before .before .before .before .before .before .before .before .bit .ensures)) ∙ c .before .before .before .before .before .before .before .if1 .taken in
     let here = getD-set-same (a .currents .now) (a .j) (pos 0) (pos 0) (omega (arith, s .pre .0, s .pre .3)) in (
@@ -61,7 +61,7 @@ returns c =
 returns-2 : tie.Need-returns-2
 unfolding polledOf keyedOn keyedOff
 returns-2 c =
-    let s = c .before .before .before .before .before .before in
+    let s = c .before .before .before .before .before .before .before in
     let a = s .args in
     let kon = sym (rw (mod-eq-of-lt (s .pre .3)) at (c .before .before .before .bit .ensures)) ∙ c .before .before .if1 .left in
     let off = sym (c .before .off .ensures) ∙ c .if2 .taken in (
@@ -74,14 +74,14 @@ returns-2 c =
 returns-3 : tie.Need-returns-3
 unfolding polledOf keyedOn keyedOff
 returns-3 c =
-    let s = c .before .before .before .before .before .before .before .before in
+    let s = c .before .before .before .before .before .before .before .before .before .before .before in
     let a = s .args in
-    let kon = sym (rw (mod-eq-of-lt (s .pre .3)) at (c .before .before .before .before .before .bit .ensures)) ∙ c .before .before .before .before .if1 .left in
+    let kon = sym (rw (mod-eq-of-lt (s .pre .3)) at (c .before .before .before .before .before .before .before .bit .ensures)) ∙ c .before .before .before .before .before .before .if1 .left in
     let koff = rw (kon, or-false) at (s .pre .4) in
-    let off = sym (c .before .before .before .off .ensures) ∙ c .before .before .if2 .left in
+    let off = sym (c .before .before .before .before .before .off .ensures) ∙ c .before .before .before .before .if2 .left in
     let p = c .keyed-off .ensures in
     let x = getD (a .currents .now) (a .j) (pos 0) in (
-      λ v samples endx e. rw (kon, koff, off) (λ i. sounding endx (moved v (p i .«key_on») (p i .«pitch_counter») x (historyOf (p i)) (c .before .released .ensures (v .adsr) i) (asBrr (p i) (a .f) samples))),
+      λ v samples endx e. rw (kon, koff, off) (λ i. sounding endx (moved v (p i .«key_on») (p i .«pitch_counter») x (historyOf (p i)) (c .before .released .ensures (v .adsr) i) (asBrr (p i) (a .self .feed) samples))),
       rw kon,
       rw kon (sym (set-getD (a .delays .now) (a .j) 0)),
       rw kon,
