@@ -22,7 +22,7 @@ use Rattle.dsp.specs.With.{withState, moved, withBrr, withNibble}
 use Rattle.dsp.specs.Fit.{FitBrr}
 use Rattle.dsp.specs.Keys.{silenced}
 use Rattle.dsp.specs.Brr.{DecodedBlock, decodeBlock}
-use Rattle.dsp.specs.Voice.{Sounding, PitchSource, blockOf, filled, placed, decodedAt, resolved, pushed, lastOf, takeOne, consume, idle, advanced, Stepped, shown, sounded}
+use Rattle.dsp.specs.Voice.{Sounding, PitchSource, blockOf, filled, placed, decodedAt, resolved, pushed, idle, advanced, Stepped, shown, sounded}
 use Rattle.dsp.specs.Inside.{asEnvelope, historyOf, asBrr, asSounding, asDecoded, pushedOn, goneOn}
 use Rattle.dsp.specs.declared.adsr.Adsr.{Adsr}
 use Rattle.dsp.specs.declared.adsr.Envelope.{Envelope}
@@ -34,25 +34,6 @@ use Rattle.dsp.specs.declared.play.Play.{Play}
 use Rattle.dsp.specs.declared.voice.Voice.{Voice}
 use Rattle.dsp.proofs.Moves.{KeptByPlay}
 use Rattle.dsp.proofs.Samples.{movedTo}
-
--- ---- the loop that consumes
-
-module _ (ram : List ℕ) (dir srcn : ℕ) where
-  pub nothing-left : (left : ℕ) (s : Sounding) → left ≡ 0 → s ≡ consume ram dir srcn left s
-  unfolding consume
-  nothing-left zero s e = refl
-  nothing-left (suc n) s e = absurd (omega arith)
-
-  pub stops : (left : ℕ) (s t : Sounding) → 0 < left → t ≡ takeOne ram dir srcn s → (lastOf s && not (t .voice .«key_on»)) ≡ true → t ≡ consume ram dir srcn left s
-  unfolding consume
-  stops zero s t l e h = absurd (omega arith)
-  stops (suc n) s t l e h = rw (← e, h)
-
-  pub goes-on : (left : ℕ) (s t : Sounding) → 0 < left → t ≡ takeOne ram dir srcn s → (lastOf s && not (t .voice .«key_on»)) ≡ false
-      → consume ram dir srcn (left - 1) t ≡ consume ram dir srcn left s
-  unfolding consume
-  goes-on zero s t l e h = absurd (omega arith)
-  goes-on (suc n) s t l e h = let z : suc n - 1 ≡ n = omega arith in rw (← e, h, z)
 
 -- ---- the block that is played: 16 samples, of which the next is below 16, and a fill of 0 or 16
 
