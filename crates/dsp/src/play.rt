@@ -177,16 +177,16 @@ impl Play {
         let mut b = self.older;
         let mut c = self.newer;
         let mut d = self.newest;
-        let mut k = self.nibble_idx;
-        let to = k + n;
-        while k < to {
-            let i = k as usize;
+        let mut i = self.nibble_idx as usize;
+        let end = i + n as usize;
+        while i < end {
             a = b;
             b = c;
             c = d;
             d = samples[i];
-            k += 1;
+            i += 1;
         }
+        let k = end as u8;
         Play {
             key_on: self.key_on,
             nibble_idx: k,
