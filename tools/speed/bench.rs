@@ -1,28 +1,12 @@
-//! The given Rust over a log: writes, and ticks that are `step` and `render_audio_single`; the time of each run in nanoseconds.
+//! LOG RAM RUNS: the given Rust over a log and the RAM of a file: writes, and ticks that are `step` and
+//! `render_audio_single`; the time of each run in nanoseconds.
 
 use apu::dsp::Dsp;
 use std::time::Instant;
 
-/// RAM as the other side fills it: random bytes, blocks without end flags, one end block with loop.
-fn fill(ram: &mut [u8; 65536]) {
-    let mut x: u32 = 12345;
-    for byte in ram.iter_mut() {
-        x ^= x << 13;
-        x ^= x >> 17;
-        x ^= x << 5;
-        *byte = x as u8;
-    }
-    for at in (0x1000..0x8000).step_by(9) {
-        ram[at] &= 0xFC;
-    }
-    let end = 0x1000 + 9 * 3000;
-    ram[end] = (ram[end] & 0xFC) | 3;
-    for entry in 0..64 {
-        ram[entry * 4..entry * 4 + 4].copy_from_slice(&[0, 0x10, 0, 0x10]);
-    }
-}
-
-/// Runs a well-formed log from `new`: writes and ticks, four bytes each, then the end.
+/// Runs a well-formed log from `new`: writes and ticks, four bytes each, then the end. Not inlined, so that what stands around the call
+/// does not change its code.
+#[inline(never)]
 fn run(log: &[u8], ram: &mut [u8; 65536], pcm: &mut [u8]) {
     let mut dsp = Dsp::new();
     let mut frames = pcm.chunks_exact_mut(4);
@@ -49,11 +33,12 @@ fn ticks_of(log: &[u8]) -> usize {
 fn main() {
     let words: Vec<String> = std::env::args().skip(1).collect();
     let log = std::fs::read(&words[0]).unwrap();
-    let runs: usize = words[1].parse().unwrap();
+    let image = std::fs::read(&words[1]).unwrap();
+    let runs: usize = words[2].parse().unwrap();
     let mut ram = Box::new([0u8; 65536]);
     let mut pcm = vec![0u8; ticks_of(&log) * 4];
     for _ in 0..runs {
-        fill(&mut ram);
+        ram.copy_from_slice(&image);
         let begun = Instant::now();
         run(&log, &mut ram, &mut pcm);
         println!("{}", begun.elapsed().as_nanos());

@@ -1,34 +1,16 @@
-/* driver LOG RUNS: calls the compiled Rattle program's run, which is sitting's run_new: the log of bench.rs over the same RAM.
-   driver LOG RUNS NEW NAMED: calls run, then its redo, the same run with a rework to the log NEW behind it, and prints by how much
+/* driver LOG RAM RUNS: calls the compiled Rattle program's run, which is sitting's run_new, over the RAM of a file.
+   driver LOG RAM RUNS NEW NAMED: calls run, then its redo, the same run with a rework to the log NEW behind it, and prints by how much
    the second takes longer; NAMED is the mask of voices. With 0 runs it calls redo once. */
 #include <stdint.h>
 #include <stdio.h>
 #include <stdlib.h>
+#include <string.h>
 #include <time.h>
 
 typedef struct { uint8_t *p; uint64_t n; } slice;
 uint8_t rt_run(slice *ram, slice *log, slice *pcm, slice *sheet, slice *readings);
 uint8_t rt_redo(uint8_t named, slice *ram, slice *old, slice *new, slice *pcm, slice *sheet, slice *readings);
-static uint8_t ram[65536], logged[65536], other[65536], pcm[32000 * 4], sheet[32000 * 36], readings[20000];
-
-static void fill(void) {
-    uint32_t x = 12345;
-    for (int i = 0; i < 65536; i++) {
-        x ^= x << 13;
-        x ^= x >> 17;
-        x ^= x << 5;
-        ram[i] = x;
-    }
-    for (int at = 0x1000; at < 0x8000; at += 9) ram[at] &= 0xFC;
-    int end = 0x1000 + 9 * 3000;
-    ram[end] = (ram[end] & 0xFC) | 3;
-    for (int e = 0; e < 64; e++) {
-        ram[e * 4] = 0;
-        ram[e * 4 + 1] = 0x10;
-        ram[e * 4 + 2] = 0;
-        ram[e * 4 + 3] = 0x10;
-    }
-}
+static uint8_t image[65536], ram[65536], logged[65536], other[65536], pcm[32000 * 4], sheet[32000 * 36], readings[20000];
 
 static void digest(const char *name, const uint8_t *bytes, uint64_t n) {
     uint64_t d = 0xCBF29CE484222325ULL;
@@ -52,6 +34,10 @@ static uint64_t load(const char *name, uint8_t *to) {
     return size;
 }
 
+static void fill(void) {
+    memcpy(ram, image, 65536);
+}
+
 static int64_t now(void) {
     struct timespec t;
     clock_gettime(CLOCK_MONOTONIC, &t);
@@ -59,19 +45,19 @@ static int64_t now(void) {
 }
 
 int main(int count, char **words) {
-    if (count != 3 && count != 5) return 2;
+    if ((count != 4 && count != 6) || load(words[2], image) != 65536) return 2;
     uint64_t size = load(words[1], logged), ticks = ticks_of(logged, size);
-    uint64_t new_size = count == 5 ? load(words[3], other) : 0;
-    uint8_t named = count == 5 ? strtol(words[4], 0, 0) : 0;
+    uint64_t new_size = count == 6 ? load(words[4], other) : 0;
+    uint8_t named = count == 6 ? strtol(words[5], 0, 0) : 0;
     slice lent = {ram, 65536}, log = {logged, size}, new = {other, new_size};
     slice samples = {pcm, ticks * 4}, rows = {sheet, ticks * 36}, told = {readings, 0};
     uint8_t refusal = 0;
-    for (int k = atoi(words[2]); k > 0; k--) {
+    for (int k = atoi(words[3]); k > 0; k--) {
         fill();
         int64_t begun = now();
         refusal |= rt_run(&lent, &log, &samples, &rows, &told);
         int64_t took = now() - begun;
-        if (count == 5) {
+        if (count == 6) {
             fill();
             begun = now();
             refusal |= rt_redo(named, &lent, &log, &new, &samples, &rows, &told);
@@ -79,7 +65,7 @@ int main(int count, char **words) {
         }
         printf("%lld\n", (long long)took);
     }
-    if (count == 5 && atoi(words[2]) == 0) {
+    if (count == 6 && atoi(words[3]) == 0) {
         fill();
         refusal |= rt_redo(named, &lent, &log, &new, &samples, &rows, &told);
     }

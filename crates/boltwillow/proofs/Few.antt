@@ -10,7 +10,7 @@ use Rattle.numbers.specs.Bits.{bit}
 use Rattle.numbers.specs.Listed.{turns}
 use Rattle.dsp.specs.PowerOn.{newDsp}
 use Rattle.dsp.specs.declared.registers.Dsp.{Dsp}
-use Rattle.sitting.specs.Run.{runWith, runOf}
+use Rattle.dsp.specs.Run.{runWith, runOf}
 use Rattle.rework.specs.Members.{countedIn, voicesIn}
 use Rattle.rework.specs.Rework.{Left, refusalOf, setOf, only, reworkOf, reworkNewOf}
 

@@ -1,7 +1,7 @@
 -- What a caller in C gets of a run, of a rework and of a sound file: a number, and the lent slices.
 use mathlib.Core.List.{List}
 use Prim.Native.Nat.{ℕ, _+_, _*_}
-use Rattle.sitting.specs.Run.{Outcome}
+use Rattle.dsp.specs.Run.{Outcome}
 use Rattle.rework.specs.Rework.{Left}
 use Rattle.wav.specs.Wav.{Restored}
 use Rattle.wav.specs.declared.Frames.{Frames}

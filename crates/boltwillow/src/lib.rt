@@ -3,7 +3,7 @@ ghost use mathlib.Core.Path.{_≡_};
 ghost use Prim.Native.Nat.{_≤_};
 ghost use Rattle.dsp.specs.PowerOn.{newDsp};
 ghost use Rattle.log.specs.Measure.{measureOf};
-ghost use Rattle.sitting.specs.Run.{runOf};
+ghost use Rattle.dsp.specs.Run.{runOf};
 ghost use Rattle.rework.specs.Rework.{reworkNewOf};
 ghost use Rattle.wav.specs.Wav.{Filed, filedOf, framesOf, readOf};
 ghost use Rattle.boltwillow.specs.Answers.{PlayedOut, playedOf, Reworked, reworkedOf, framesAnswer, ReadOut, restoredOf};

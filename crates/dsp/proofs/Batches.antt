@@ -1,10 +1,10 @@
 -- Ticks in one go and ticks behind others: a batch sees only its own rows of the sheet that was found. And what the entries for a
 -- run do where they refuse nothing.
-use mathlib.Core.List.{List, _++_, append-assoc, append-nil}
+use mathlib.Core.List.{List, _++_, append-assoc}
 use mathlib.Core.Path.{_≡_, refl}
 use Prim.Native.Nat.{ℕ, zero, suc, _+_, _-_, _*_, _%_, _≤_, _<_}
 use native.Mathlib.Omega.{arith}
-use lib.ListN.{drop, length, length-drop, drop-of-length-le}
+use lib.ListN.{drop, length, length-drop}
 use lib.Seq.{take-append-le, drop-append-le}
 use borrow.Author.Tests.{eq-eqb}
 use Rattle.dsp.specs.Machine.{Parts}
@@ -52,16 +52,6 @@ ticks-behind w (suc n) b pcm sheet rest h =
     let o = old-left w n b in
     let s : 36 ≤ length (f .old) = omega arith in
     rw (ticks-behind w n b pcm sheet rest (omega arith), tick-part w (f .old) rest (f .parts) (f .ram) s, append-assoc pcm, append-assoc sheet, drop-append-le 36 (f .old) rest s)
-
--- a batch of n ticks over exactly its rows
-pub ticks-batch : (w : Work) (n : ℕ) (d : Dsp) (ram pcm sheet old rest : List ℕ) → length old ≡ n * 36
-    → ticksOf w n (record { parts = benchOf d ram old .parts; ram = ram; pcm = pcm; sheet = sheet; old = old ++ rest })
-    ≡ (let b = ticksOf w n (benchOf d ram old) in record { parts = b .parts; ram = b .ram; pcm = pcm ++ b .pcm; sheet = sheet ++ b .sheet; old = rest })
-ticks-batch w n d ram pcm sheet old rest h =
-    let b = benchOf d ram old in
-    let o = old-left w n b in
-    let z = drop-of-length-le (ticksOf w n b .old) {i = 0} (omega arith) in
-    rw (append-nil pcm, append-nil sheet, z) at (ticks-behind w n b pcm sheet rest (omega arith))
 
 -- ---- the entries
 

@@ -1,15 +1,17 @@
 -- A turn of the loop over the voices and of the loop over the ticks, on plain values: what each has done is the definition's, and
 -- its lanes and rows stand in the sheet, and its samples in the PCM, behind what was there before.
-use mathlib.Core.Bool.{Bool}
+use mathlib.Core.Bool.{Bool, false}
 use mathlib.Core.List.{List, [], _++_, append-assoc, append-nil}
 use mathlib.Core.Path.{_≡_, refl, sym, ap, subst, _∙_}
-use Prim.Native.Nat.{ℕ, _+_, _-_, _*_, _≤_, _<_}
+use Prim.Native.Nat.{ℕ, _+_, _-_, _*_, _%_, _≤_, _<_}
 use native.Mathlib.Omega.{arith}
 use native.Mathlib.Numerals.{add-one}
 use lib.IntN.{ℤ}
 use lib.ListN.{getD, set, take, drop, length}
-use lib.Seq.{drop-drop}
-use borrow.Rule.Slice.PartMut.{putMid, midOf}
+use lib.Seq.{drop-drop, set-getD}
+use borrow.Rule.Slice.PartMut.{putMid, midOf, put-same}
+use Rattle.numbers.specs.Choice.{_=?_}
+use Rattle.sound.specs.Sound.{joined}
 use Rattle.numbers.proofs.Choice.{chosen}
 use Rattle.numbers.proofs.Parts.{Written, written-to, rest-is, part-found, part-written, sized, written-on}
 use Rattle.numbers.specs.Bits.{bit}
@@ -18,9 +20,10 @@ use Rattle.dsp.specs.Machine.{noVoice, Parts, Globals}
 use Rattle.dsp.specs.Mix.{masterOf, Stereo}
 use Rattle.dsp.specs.Sheet.{pairBytes, laneBytes, laneAt}
 use Rattle.dsp.specs.Echo.{EchoLane, echoLane}
-use Rattle.dsp.specs.Lane.{Landed, turned, Shared, Sums}
+use Rattle.dsp.specs.Lane.{Shared, shownCell, putBytes, Sums, added, Landed, turned}
 use Rattle.dsp.specs.Tick.{Round, landing, turn, globalsTick, startOf, frameOf, partsAfter, mixed, sharedOf}
 use Rattle.dsp.specs.Ticks.{Bench, onward, benchTick, ticksOf}
+use Rattle.dsp.specs.Inside.{heard}
 use Rattle.dsp.specs.declared.voice.Voice.{Voice}
 use Rattle.dsp.specs.declared.tick.Work.{Work}
 use Rattle.dsp.proofs.Ticks.{RoundFit, BenchFit, fit-kept-turn, glued, fit-kept-bench}
@@ -86,6 +89,25 @@ lane-on mask c ram found at start v sheet voices delays bytes acc a b x l lt ea 
           (subst (λ (d : List ℕ). Written found (putMid a (b - a) sheet (x .slot)) b d) (append-assoc (take at found) (l .row) (x .slot)) p);
     }
 
+-- one that is shown: nothing moves but the bytes and the sums
+pub lane-shown : (mask : ℕ) (c : Shared) (ram found : List ℕ) (at : ℕ) (start : Round) (v : ℕ) (sheet : List ℕ) (voices : List Voice) (delays bytes : List ℕ) (acc : Sums) (a b : ℕ) (bytes′ : List ℕ) (acc′ : Sums)
+    → Lanes mask c ram found at start v sheet voices delays bytes acc → v < 8 → a ≡ at + v * 4 → b ≡ a + 4 → length (midOf a (b - a) sheet) ≡ 4 → bit mask v ≡ false
+    → (let slot = midOf a (b - a) sheet in
+    let out = joined (getD slot 0 0) (getD slot 1 0) in
+    bytes′ ≡ putBytes v (getD slot 2 0) out (getD slot 3 0 % 2 =? 1) bytes
+    → acc′ ≡ added (bit (c .eon) v) out (getD voices v noVoice .«left_vol») (getD voices v noVoice .«right_vol») acc
+    → Lanes mask c ram found at start (v + 1) sheet voices delays bytes′ acc′)
+unfolding turned shownCell
+lane-shown mask c ram found at start v sheet voices delays bytes acc a b bytes′ acc′ l lt ea eb es off ey em =
+    let slot = midOf a (b - a) sheet in
+    let w = getD voices v noVoice in
+    let x : Landed = record { voice = w; delay = getD delays v 0; sums = acc′; bytes = bytes′; slot = slot } in
+    let e : x ≡ turned (bit mask v) c ram v w (getD delays v 0) acc bytes slot = rw off (λ i. record { voice = w; delay = getD delays v 0; sums = em i; bytes = ey i; slot = slot }) in
+    let y = lane-on mask c ram found at start v sheet voices delays bytes acc a b x l lt ea eb es e in
+    subst (λ (z : List ℕ). Lanes mask c ram found at start (v + 1) z voices delays bytes′ acc′) (put-same a (b - a) sheet)
+    (subst (λ (z : List ℕ). Lanes mask c ram found at start (v + 1) (putMid a (b - a) sheet slot) voices z bytes′ acc′) (set-getD delays v 0)
+    (subst (λ (z : List Voice). Lanes mask c ram found at start (v + 1) (putMid a (b - a) sheet slot) z (set delays v (getD delays v 0)) bytes′ acc′) (set-getD voices v noVoice) y))
+
 pub lanes-sized : {mask : ℕ} {c : Shared} {ram found : List ℕ} {at : ℕ} {start : Round} {v : ℕ} {sheet : List ℕ} {voices : List Voice} {delays bytes : List ℕ} {acc : Sums}
     → Lanes mask c ram found at start v sheet voices delays bytes acc → at + v * 4 ≤ length found → length sheet ≡ length found
 lanes-sized l h = sized (l .lanes) h
@@ -113,7 +135,7 @@ echo-sized w g taps left right ram input slot h = chosen (λ (e : EchoLane). len
 pub tick-on : (w : Work) (foundPcm foundSheet : List ℕ) (start : Bench) (i : ℕ) (pcm sheet : List ℕ) (parts : Parts) (ram : List ℕ) (h : Globals) (c : Shared)
     (lanes : List ℕ) (voices : List Voice) (delays bytes : List ℕ) (acc : Sums) (a b o u : ℕ) (x : EchoLane) (pair : List ℕ)
     → Driven w foundPcm foundSheet start i pcm sheet parts ram
-    → h ≡ globalsTick (parts .globals) → c ≡ sharedOf (parts .globals) (parts .registers)
+    → h ≡ globalsTick (parts .globals) → c ≡ heard (w .echo) (sharedOf (parts .globals) (parts .registers))
     → Lanes (w .voices) c ram sheet (i * 36) (startOf parts) 8 lanes voices delays bytes acc
     → a ≡ i * 36 + 32 → b ≡ a + 4 → length (midOf a (b - a) lanes) ≡ 4
     → x ≡ echoLane (w .echo) h (parts .taps) (parts .left) (parts .right) ram (acc .input) (midOf a (b - a) lanes)

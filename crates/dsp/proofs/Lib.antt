@@ -1,8 +1,11 @@
 pub mod Rules
+pub mod Arrays
 pub mod Blocks
 pub mod Envelopes
 pub mod Pitch
 pub mod Plays
+pub mod Samples
+pub mod Store
 pub mod Outputs
 pub mod Echoes
 pub mod Readings
@@ -15,3 +18,9 @@ pub mod Ticks
 pub mod Drives
 pub mod Whole
 pub mod Batches
+pub mod Apart
+pub mod Made
+pub mod Steps
+pub mod Turning
+pub mod Logs
+pub mod Playing

@@ -1,12 +1,14 @@
 -- A tick of the machine: what it keeps, and how its parts make the definition.
-use mathlib.Core.Bool.{Bool}
+use mathlib.Core.Bool.{Bool, true, false, _&&_}
 use mathlib.Core.List.{List, [], _∷_}
-use mathlib.Core.Path.{_≡_, refl, _∙_}
-use Prim.Native.Nat.{ℕ, zero, suc, _+_, _%_, _≤_, _<_}
+use mathlib.Core.Path.{_≡_, refl, sym, ap, _∙_}
+use Prim.Native.Nat.{ℕ, zero, suc, _+_, _/_, _%_, _^_, _≤_, _<_}
 use native.Mathlib.Omega.{arith}
+use native.Mathlib.Nat.{zero-div}
+use borrow.Author.Tests.{ne-eqb}
 use lib.IntN.{ℤ}
 use lib.ListN.{getD, length, length-set, length-map}
-use Rattle.numbers.specs.Choice.{_<?_}
+use Rattle.numbers.specs.Choice.{if_then_else_, _<?_}
 use Rattle.numbers.proofs.Choice.{chosen}
 use Rattle.numbers.specs.Bits.{bit}
 use Rattle.numbers.specs.Listed.{turns}
@@ -14,16 +16,17 @@ use Rattle.dsp.specs.Machine.{noVoice, apart, together, Globals}
 use Rattle.dsp.specs.Fit.{delayRule, Facts, FitVoice, FitGlobals, Fit}
 use Rattle.dsp.specs.Ram.{storedFrom}
 use Rattle.dsp.specs.Registers.{resets, writeParts, writeAt}
-use Rattle.dsp.specs.Mix.{Stereo}
+use Rattle.dsp.specs.Mix.{Stereo, silent}
 use Rattle.dsp.specs.Sheet.{pairBytes, laneAt}
 use Rattle.dsp.specs.Echo.{echoBase, EchoLane, echoTick, echoWritten, echoFrom, echoLane}
-use Rattle.dsp.specs.Lane.{putBytes, turned, Shared}
+use Rattle.dsp.specs.Lane.{Shared, polledOf, waitedOf, cellAfter, cellOf, ownCell, putBytes, added, turned}
 use Rattle.dsp.specs.Tick.{Round, turn, voicesTick, globalsTick, sharedOf, mixed, tickOf, startOf}
 use Rattle.dsp.specs.Ticks.{Bench, onward, benchTick, benchWrite, ticksOf}
+use Rattle.dsp.specs.Inside.{heard}
 use Rattle.dsp.specs.declared.voice.Voice.{Voice}
 use Rattle.dsp.specs.declared.registers.Dsp.{Dsp}
 use Rattle.dsp.specs.declared.tick.Work.{Work}
-use Rattle.numbers.proofs.Turns.{turns-keep, set-keeps}
+use Rattle.numbers.proofs.Turns.{turns-keep, turns-through, set-keeps}
 use Rattle.dsp.proofs.Fits.{fit-kept-write}
 use Rattle.dsp.proofs.Envelopes.{fit-kept-noise}
 use Rattle.dsp.proofs.Echoes.{fit-kept-echo}
@@ -88,14 +91,48 @@ pub record BenchFit (b : Bench) : Type 0 where
   pub round : RoundFit (startOf (b .parts))
   pub globals : FitGlobals (b .parts .globals)
 
--- the parts of a tick make it
+-- ---- a tick that does not work the echo does not see the input that is summed for it
+
+abbrev mute : Round → Round
+mute r =
+    record {
+      voices = r .voices;
+      delays = r .delays;
+      bytes = r .bytes;
+      sums = record { prev = r .sums .prev; dry = r .sums .dry; input = silent };
+      row = r .row;
+    }
+
+no-bit : (n : ℕ) → bit 0 n ≡ false
+no-bit n = ne-eqb (0 / 2 ^ n % 2) 1 (λ (e : 0 / 2 ^ n % 2 ≡ 1). let z : 0 / 2 ^ n ≡ 0 = zero-div (2 ^ n) in omega arith)
+
+-- whether a voice is summed for an echo that is worked or not
+pub heard-bit : (echo : Bool) (eon j : ℕ) → (echo && bit eon j) ≡ bit (if echo then eon else 0) j
+heard-bit true eon j = refl
+heard-bit false eon j = sym (no-bit j)
+
+mute-turn : (mask : ℕ) (old : List ℕ) (c : Shared) (ram : List ℕ) (j : ℕ) (r : Round) → turn mask old (heard false c) ram j (mute r) ≡ mute (turn mask old c ram j r)
+unfolding turn turned ownCell cellOf cellAfter waitedOf polledOf added
+mute-turn mask old c ram j r = rw (no-bit j)
+
+unheard : (echo : Bool) (b : Bench) (w : ℕ) (g : Globals) (c : Shared)
+    → (let round : Shared → Round = λ (d : Shared). turns (turn w (b .old) d (b .ram)) 8 (startOf (b .parts)) in
+    let ends : Round → Bench = λ (r : Round). onward b (mixed (b .parts .taps) r (echoLane echo g (b .parts .taps) (b .parts .left) (b .parts .right) (b .ram) (r .sums .input) (laneAt 8 (b .old)))) in
+    ends (round (heard echo c)) ≡ ends (round c))
+unfolding echoLane
+unheard true b w g c = refl
+unheard false b w g c =
+    ap (λ (r : Round). onward b (mixed (b .parts .taps) r (echoLane false g (b .parts .taps) (b .parts .left) (b .parts .right) (b .ram) (r .sums .input) (laneAt 8 (b .old)))))
+    (turns-through mute (turn w (b .old) c (b .ram)) (turn w (b .old) (heard false c) (b .ram)) (mute-turn w (b .old) c (b .ram)) 8 (startOf (b .parts)))
+
+-- the parts of a tick make it; where it does not work the echo, no input was summed
 pub glued : (w : Work) (b : Bench) (h : Globals) (c : Shared) (r : Round) (e : EchoLane) → h ≡ globalsTick (b .parts .globals)
-    → c ≡ sharedOf (b .parts .globals) (b .parts .registers)
+    → c ≡ heard (w .echo) (sharedOf (b .parts .globals) (b .parts .registers))
     → r ≡ turns (turn (w .voices) (b .old) c (b .ram)) 8 (startOf (b .parts))
     → e ≡ echoLane (w .echo) h (b .parts .taps) (b .parts .left) (b .parts .right) (b .ram) (r .sums .input) (laneAt 8 (b .old))
     → onward b (mixed (b .parts .taps) r e) ≡ benchTick w b
 unfolding benchTick tickOf voicesTick
-glued w b h c r e eh ec er ee = rw (ee, er, eh, ec)
+glued w b h c r e eh ec er ee = rw (ee, er, eh, ec) (unheard (w .echo) b (w .voices) (globalsTick (b .parts .globals)) (sharedOf (b .parts .globals) (b .parts .registers)))
 
 pub fit-kept-bench : (w : Work) (b : Bench) → BenchFit b → BenchFit (benchTick w b)
 unfolding benchTick tickOf voicesTick

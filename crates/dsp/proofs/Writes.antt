@@ -6,7 +6,7 @@ use Prim.Native.Nat.{ℕ, _/_, _%_, _≤_, _<_}
 use native.Mathlib.Decide.{ℕ-discrete}
 use native.Mathlib.Omega.{arith}
 use lib.IntN.{ℤ, pos}
-use lib.ListN.{getD, set}
+use lib.ListN.{length, getD, set, length-set}
 use lib.Dec.{eqb}
 use borrow.Author.Tests.{lt-ltb, le-ltb, eq-eqb, ne-eqb}
 use Rattle.numbers.specs.Choice.{_=?_}
@@ -14,7 +14,7 @@ use Rattle.numbers.specs.Signed.{cutZ}
 use Rattle.numbers.proofs.Choice.{chosen}
 use Rattle.dsp.specs.Machine.{noVoice, globalsOf, together, Globals}
 use Rattle.dsp.specs.Keys.{silenced}
-use Rattle.dsp.specs.Registers.{at, writeVoice, resets, globalsAfter, endxWrite, writeParts, writeAt}
+use Rattle.dsp.specs.Registers.{at, writeVoice, resets, globalsAfter, endxWrite, tapsAfter, writeParts, writeAt}
 use Rattle.dsp.specs.Inside.{withGlobals}
 use Rattle.dsp.specs.declared.voice.Voice.{Voice}
 use Rattle.dsp.specs.declared.registers.Dsp.{Dsp}
@@ -49,6 +49,10 @@ glob-kept i x g h = let e = none-eqb globals i h in simp e
 -- $7C takes its byte as any register does
 pub endx-as-any : (i x : ℕ) → at i 0x7C (endxWrite x) x ≡ x
 endx-as-any i x = chosen (λ (y : ℕ). y ≡ x) (i =? 0x7C) refl refl
+
+-- as many taps as before
+pub taps-many : (i x : ℕ) (taps : List ℤ) → length (tapsAfter i x taps) ≡ length taps
+taps-many i x taps = chosen (λ (ys : List ℤ). length ys ≡ length taps) (i % 16 =? 15) (length-set taps _ _) refl
 
 -- ---- the three kinds of register
 

@@ -19,3 +19,5 @@ pub mod Tick
 pub mod Ticks
 pub mod Readings
 pub mod Inside
+pub mod Play
+pub mod Run

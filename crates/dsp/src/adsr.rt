@@ -2,14 +2,19 @@
 // the state that a tick moves.
 ghost use mathlib.Core.Bool.{not, _&&_};
 ghost use mathlib.Core.Path.{_≡_};
-ghost use Prim.Native.Nat.{_≤_, _<_};
-ghost use Rattle.sound.specs.Clock.{periods};
+ghost use Prim.Native.Nat.{ℕ, _≤_, _<_};
+ghost use Rattle.sound.specs.Clock.{periods, periodOf};
 ghost use Rattle.dsp.specs.Clock.{fires, countedOn};
 ghost use Rattle.dsp.specs.PowerOn.{newAdsr};
 ghost use Rattle.dsp.specs.Fit.{adsrRule, meets, FitAdsr};
 ghost use Rattle.dsp.specs.Envelope.{counted, levelled, risen, settled, fallenTo, isOff, isHeld, attackTick, decayTick, sustainTick, releaseTick, gainTick, envelopeTick};
-ghost use Rattle.dsp.specs.Inside.{asAdsr};
+ghost use Rattle.dsp.specs.Mix.{scaledOutput};
+ghost use Rattle.dsp.specs.With.{withState};
+ghost use Rattle.dsp.specs.Inside.{Wound, cutEnvelope, asEnvelope, asAdsr};
+ghost use Rattle.dsp.specs.declared.adsr.Adsr.{Adsr};
+ghost use Rattle.dsp.specs.declared.adsr.EnvelopePhase.the-variants.{Attack, Release};
 ghost use Rattle.dsp.specs.declared.adsr.Settings.{Settings};
+use crate::mix::scaled_output;
 
 pub enum EnvelopePhase {
     Attack,
@@ -32,6 +37,7 @@ pub struct Adsr {
     pub tick_counter: u16,
 }
 
+// The settings, with the tick period that each of its rates stands for.
 pub struct Settings {
     pub adsr_mode: bool,
     pub gain_param: u8,
@@ -39,6 +45,10 @@ pub struct Settings {
     pub decay_rate: u8,
     pub sustain_level: u8,
     pub sustain_rate: u8,
+    pub attack_period: u16,
+    pub decay_period: u16,
+    pub sustain_period: u16,
+    pub gain_period: u16,
 }
 
 pub struct Envelope {
@@ -82,12 +92,19 @@ impl Adsr {
     }
 }
 
-pub(crate) fn tick_due(rates: &[u16], counter: u16, entry: u8) -> Tick
-    requires { ⌜ (now rates ≡ periods) × (counter ≤ 2047) × (entry < 32) ⌝ }
-    ensures { λ r. ⌜ (r .counter ≡ countedOn counter entry) × (r .due ≡ fires counter entry) ⌝ }
+// The period of an entry of the table; entry 0 never fires.
+pub(crate) fn period_of(rates: &[u16], entry: u8) -> u16
+    requires { ⌜ (now rates ≡ periods) × (entry < 32) ⌝ }
+    ensures { λ r. ⌜ r ≡ periodOf entry ⌝ }
 {
     let i = entry as usize;
-    let period = rates[i];
+    rates[i]
+}
+
+pub(crate) fn tick_due(counter: u16, period: u16) -> Tick
+    requires { ⌜ counter ≤ 2047 ⌝ }
+    ensures { λ r. ⌜ ((entry : ℕ) → periodOf entry ≡ period → (r .counter ≡ countedOn counter entry) × (r .due ≡ fires counter entry)) ⌝ }
+{
     if period == 0 {
         Tick {
             counter,
@@ -132,18 +149,75 @@ fn gains(phase: EnvelopePhase, s: Settings) -> bool
 }
 
 impl Envelope {
-    fn counted(mut self, counter: u16) -> Self
-        ensures { λ r. ⌜ ((s : Settings) → asAdsr s r ≡ counted (asAdsr s self) counter) ⌝ }
+    // Key-on.
+    pub(crate) fn begun() -> Self
+        ensures { λ r. ⌜ ((a : Adsr) → asEnvelope a r ≡ withState a 0 Attack 0) ⌝ }
     {
-        self.counter = counter;
-        self
+        Envelope {
+            level: 0,
+            phase: EnvelopePhase::Attack,
+            counter: 0,
+        }
     }
 
-    fn levelled(mut self, level: u16) -> Self
+    // A hard cut and no release.
+    pub(crate) fn cut(self) -> Self
+        ensures { λ r. ⌜ r ≡ cutEnvelope self ⌝ }
+    {
+        Envelope {
+            level: 0,
+            phase: EnvelopePhase::Off,
+            counter: self.counter,
+        }
+    }
+
+    pub(crate) fn released(self) -> Self
+        ensures { λ r. ⌜ ((a : Adsr) → asEnvelope a r ≡ withState a (self .level) Release (self .counter)) ⌝ }
+    {
+        Envelope {
+            level: self.level,
+            phase: EnvelopePhase::Release,
+            counter: self.counter,
+        }
+    }
+
+    pub(crate) fn off(self) -> bool
+        ensures { λ r. ⌜ r ≡ isOff (self .phase) ⌝ }
+    {
+        let phase = self.phase;
+        is_off(phase)
+    }
+
+    // Post-envelope output before volume.
+    pub(crate) fn scaled(self, sample: i16) -> i16
+        requires { ⌜ self .level ≤ 0x800 ⌝ }
+        ensures { λ r. ⌜ r ≡ scaledOutput (self .phase) (self .level) sample ⌝ }
+    {
+        let phase = self.phase;
+        scaled_output(phase, self.level, sample)
+    }
+
+    // A body that is hot makes its record by one full literal: a field set in place is moved through memory.
+    fn counted(self, counter: u16) -> Self
+        ensures { λ r. ⌜ ((s : Settings) → asAdsr s r ≡ counted (asAdsr s self) counter) ⌝ }
+    {
+        let phase = self.phase;
+        Envelope {
+            level: self.level,
+            phase,
+            counter,
+        }
+    }
+
+    fn levelled(self, level: u16) -> Self
         ensures { λ r. ⌜ ((s : Settings) → asAdsr s r ≡ levelled (asAdsr s self) level) ⌝ }
     {
-        self.level = level;
-        self
+        let phase = self.phase;
+        Envelope {
+            level,
+            phase,
+            counter: self.counter,
+        }
     }
 
     fn risen(self, by: u16) -> Self
@@ -192,24 +266,24 @@ impl Envelope {
     }
 
     // Rate 15 is near-instant: a fixed step and no clock.
-    fn attack(self, rates: &[u16], s: Settings) -> Self
-        requires { ⌜ (now rates ≡ periods) × FitAdsr (asAdsr s self) ⌝ }
+    fn attack(self, s: Settings) -> Self
+        requires { ⌜ Wound s × FitAdsr (asAdsr s self) ⌝ }
         ensures { λ r. ⌜ asAdsr s r ≡ attackTick (asAdsr s self) ⌝ }
     {
         if s.attack_rate == 15 {
             self.risen(1024)
         } else {
-            let t = tick_due(rates, self.counter, 2 * s.attack_rate + 1);
+            let t = tick_due(self.counter, s.attack_period);
             let e = self.counted(t.counter);
             if t.due { e.risen(32) } else { e }
         }
     }
 
-    fn decay(self, rates: &[u16], s: Settings) -> Self
-        requires { ⌜ (now rates ≡ periods) × FitAdsr (asAdsr s self) ⌝ }
+    fn decay(self, s: Settings) -> Self
+        requires { ⌜ Wound s × FitAdsr (asAdsr s self) ⌝ }
         ensures { λ r. ⌜ asAdsr s r ≡ decayTick (asAdsr s self) ⌝ }
     {
-        let t = tick_due(rates, self.counter, 2 * s.decay_rate + 16);
+        let t = tick_due(self.counter, s.decay_period);
         let e = self.counted(t.counter);
         if t.due {
             e.settled((s.sustain_level as u16 + 1) * 0x100)
@@ -218,11 +292,11 @@ impl Envelope {
         }
     }
 
-    fn sustain(self, rates: &[u16], s: Settings) -> Self
-        requires { ⌜ (now rates ≡ periods) × FitAdsr (asAdsr s self) ⌝ }
+    fn sustain(self, s: Settings) -> Self
+        requires { ⌜ Wound s × FitAdsr (asAdsr s self) ⌝ }
         ensures { λ r. ⌜ asAdsr s r ≡ sustainTick (asAdsr s self) ⌝ }
     {
-        let t = tick_due(rates, self.counter, s.sustain_rate);
+        let t = tick_due(self.counter, s.sustain_period);
         let e = self.counted(t.counter);
         if t.due {
             e.fallen_to(sound::lowered(e.level))
@@ -238,15 +312,15 @@ impl Envelope {
     }
 
     // GAIN: a level at once, or a ramp at its own rate. No phase change.
-    fn update_gain(self, rates: &[u16], s: Settings) -> Self
-        requires { ⌜ (now rates ≡ periods) × FitAdsr (asAdsr s self) ⌝ }
+    fn update_gain(self, s: Settings) -> Self
+        requires { ⌜ Wound s × FitAdsr (asAdsr s self) ⌝ }
         ensures { λ r. ⌜ asAdsr s r ≡ gainTick (asAdsr s self) ⌝ }
     {
         let g = s.gain_param;
         if g < 0x80 {
             self.levelled(16 * (g as u16))
         } else {
-            let t = tick_due(rates, self.counter, g % 32);
+            let t = tick_due(self.counter, s.gain_period);
             let e = self.counted(t.counter);
             if t.due {
                 e.levelled(sound::gained(g / 32 % 4, e.level))
@@ -257,20 +331,21 @@ impl Envelope {
     }
 
     // Advance the envelope by one tick.
-    pub(crate) fn update_envelope(self, rates: &[u16], s: Settings) -> Self
-        requires { ⌜ (now rates ≡ periods) × FitAdsr (asAdsr s self) ⌝ }
+    pub(crate) fn update_envelope(self, s: Settings) -> Self
+        requires { ⌜ Wound s × FitAdsr (asAdsr s self) ⌝ }
         ensures { λ r. ⌜ asAdsr s r ≡ envelopeTick (asAdsr s self) ⌝ }
     {
         let p = self.phase;
         if gains(p, s) {
-            return self.update_gain(rates, s);
-        }
-        match p {
-            EnvelopePhase::Attack => self.attack(rates, s),
-            EnvelopePhase::Decay => self.decay(rates, s),
-            EnvelopePhase::Sustain => self.sustain(rates, s),
-            EnvelopePhase::Release => self.release(),
-            EnvelopePhase::Off => self,
+            self.update_gain(s)
+        } else {
+            match p {
+                EnvelopePhase::Attack => self.attack(s),
+                EnvelopePhase::Decay => self.decay(s),
+                EnvelopePhase::Sustain => self.sustain(s),
+                EnvelopePhase::Release => self.release(),
+                EnvelopePhase::Off => self,
+            }
         }
     }
 }

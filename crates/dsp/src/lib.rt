@@ -8,6 +8,7 @@ mod mix;
 mod noise;
 mod play;
 mod registers;
+mod run;
 mod tick;
 mod voice;
 
@@ -17,6 +18,8 @@ pub use brr::Brr;
 pub use mix::Sample;
 pub use registers::Answer;
 pub use registers::Dsp;
+pub use run::Played;
+pub use run::play_log;
 pub use sound::decode_brr_nibble;
 pub use tick::RAM_SIZE;
 pub use tick::Work;

@@ -4,6 +4,7 @@ ghost use Prim.Native.Nat.{_≤_};
 ghost use Rattle.sound.specs.Clock.{periods};
 ghost use Rattle.dsp.specs.Noise.{noiseTick, noiseSample};
 ghost use Rattle.dsp.specs.Inside.{asNoise};
+use crate::adsr::period_of;
 use crate::adsr::tick_due;
 
 // The Rust's noise_lfsr and noise_tick_counter.
@@ -18,7 +19,7 @@ impl Noise {
         requires { ⌜ (now rates ≡ periods) × (self .counter ≤ 2047) ⌝ }
         ensures { λ r. ⌜ asNoise r ≡ noiseTick flg (asNoise self) ⌝ }
     {
-        let t = tick_due(rates, self.counter, flg % 32);
+        let t = tick_due(self.counter, period_of(rates, flg % 32));
         self.counter = t.counter;
         if t.due {
             self.lfsr = sound::shifted(self.lfsr);

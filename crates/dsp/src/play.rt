@@ -1,23 +1,22 @@
-// One voice for one tick: pitch, samples, blocks. What moves stands in one small record; the 16 samples of the
-// block that is played are lent beside it.
-ghost use mathlib.Core.Bool.{_||_};
+// One voice for one tick: position, index and history in one small record, and the block that its samples come from in another; the 16
+// samples of that block are lent.
+ghost use mathlib.Core.Bool.{Bool, true, false, not, _&&_};
 ghost use mathlib.Core.List.{List};
 ghost use mathlib.Core.Path.{_≡_};
-ghost use Prim.Native.Nat.{_<_, _≤_};
+ghost use Prim.Native.Nat.{_+_, _<_, _≤_};
 ghost use lib.IntN.{ℤ, pos};
-ghost use lib.ListN.{getD, length};
-ghost use Rattle.sound.specs.Clock.{periods};
+ghost use lib.ListN.{length, replicate};
+ghost use Rattle.numbers.specs.Unsigned.{wrapped};
 ghost use Rattle.sound.specs.Gauss.{weights};
-ghost use Rattle.dsp.specs.Fit.{FitAdsr, FitBrr};
-ghost use Rattle.dsp.specs.Keys.{silenced};
-ghost use Rattle.dsp.specs.Voice.{Sounding, Stepped, pitchOf, positionOf, filled, withBlock, decodedAt, nextAddress, nextBlock, resolved, pushedNext, takeOne, consume, idle, advanced, interpolated, voiceStep};
-ghost use Rattle.dsp.specs.Inside.{settingsOf, asAdsr, asBrr, asVoice, asSounding, asDecoded, asSource};
+ghost use Rattle.dsp.specs.Interpolation.{interpolateZ};
+ghost use Rattle.dsp.specs.Ram.{entryOf};
+ghost use Rattle.dsp.specs.Brr.{decodeBlock};
+ghost use Rattle.dsp.specs.Voice.{pitchOf, positionOf, blockOf, nextAddress};
+ghost use Rattle.dsp.specs.Inside.{asSource, historyOf, hushedPlay, asBrr, asSounding, pushedOn, begunOf, dueOf, restLeft, blockAddress, goneOn};
+ghost use Rattle.dsp.specs.declared.adsr.Envelope.{Envelope};
+ghost use Rattle.dsp.specs.declared.play.Feed.{Feed};
+ghost use Rattle.dsp.specs.declared.play.Play.{Play};
 ghost use Rattle.dsp.specs.declared.voice.Voice.{Voice};
-use crate::adsr::Envelope;
-use crate::adsr::EnvelopePhase;
-use crate::adsr::Settings;
-use crate::adsr::is_off;
-use crate::brr::Block;
 use crate::brr::decode_brr_block;
 use crate::brr::read_le16;
 use crate::gauss::interpolate;
@@ -28,25 +27,37 @@ pub enum Source {
     From(i16),
 }
 
+// What moves in every tick that sounds: the position, the next sample of the block, and the four newest samples.
 pub struct Play {
     pub key_on: bool,
-    pub envelope: Envelope,
-    pub addr: u16,
     pub nibble_idx: u8,
+    pub pitch_counter: u16,
+    pub oldest: i16,
+    pub older: i16,
+    pub newer: i16,
+    pub newest: i16,
+}
+
+// The block that is played: what moves at a block change only.
+pub struct Feed {
+    pub addr: u16,
     pub buffer_fill: u8,
     pub prev1: i16,
     pub prev2: i16,
     pub block_end: bool,
-    pub pitch_counter: u16,
-    pub current_sample: i16,
-    pub history: [i16; 4],
-    pub endx: bool,
 }
 
-// A voice after its step, and its ENVX.
-pub struct Shown {
+// A block change: the block, and whether it mutes the voice.
+pub struct Fed {
+    pub feed: Feed,
+    pub mutes: bool,
+}
+
+// A voice in its tick: whether a block change is due, and how many samples are left to take behind it.
+pub struct Begun {
     pub play: Play,
-    pub envx: u8,
+    pub due: bool,
+    pub rest: u8,
 }
 
 fn pitch_of(base: u16, source: Source) -> u32
@@ -60,66 +71,33 @@ fn pitch_of(base: u16, source: Source) -> u32
     }
 }
 
-impl Play {
-    // The position moved on by the pitch. The cap applies under strong modulation only.
-    fn position_of(self, pitch: u16, source: Source) -> u16
-        ensures { λ r. ⌜ ((v : Voice) (samples : List ℤ) → v .pitch ≡ pitch → r ≡ positionOf (asSource source) (asVoice v self samples)) ⌝ }
-    {
-        let s = ((self.pitch_counter % 0x4000) as u32) + pitch_of(pitch, source);
-        if s <= 0x7FFF { s as u16 } else { 0x7FFF }
-    }
+// The position moved on by the pitch. The cap applies under strong modulation only.
+fn position_of(position: u16, pitch: u16, source: Source) -> u16
+    ensures { λ r. ⌜ ((v : Voice) → v .pitch ≡ pitch → v .«pitch_counter» ≡ position → r ≡ positionOf (asSource source) v) ⌝ }
+{
+    let s = ((position % 0x4000) as u32) + pitch_of(pitch, source);
+    if s <= 0x7FFF { s as u16 } else { 0x7FFF }
+}
 
-    // An end block without loop: a hard mute and no release.
-    fn muted(self) -> Self
-        ensures { λ r. ⌜ ((v : Voice) (samples : List ℤ) → _≡_ {A = Sounding} (asSounding v r samples) (record { voice = silenced (asVoice v self samples); endx = self .endx })) ⌝ }
+impl Feed {
+    // Key-on: the address is that of the directory entry until the first step resolves it.
+    pub(crate) fn begun(dir: u8, srcn: u8) -> Self
+        ensures { λ r. ⌜ (r .addr ≡ wrapped (entryOf dir srcn)) × (r .«buffer_fill» ≡ 0) × (r .prev1 ≡ pos 0) × (r .prev2 ≡ pos 0) × (r .«block_end» ≡ false) ⌝ }
     {
-        let e = self.envelope;
-        let cut = Envelope {
-            level: 0,
-            phase: EnvelopePhase::Off,
-            counter: e.counter,
-        };
-        Self {
-            key_on: false,
-            envelope: cut,
-            ..self
+        Feed {
+            addr: numbers::wrapping_add16((dir as u16) * 256, (srcn as u16) * 4),
+            buffer_fill: 0,
+            prev1: 0,
+            prev2: 0,
+            block_end: false,
         }
-    }
-
-    // The block at an address lies in the buffer.
-    fn filled(mut self, at: u16, b: Block) -> Self
-        ensures { λ r. ⌜ ((v : Voice) (old new : List ℤ) → _≡_ {A = Sounding} (asSounding v r new) (record { voice = filled at (asDecoded b new) (asVoice v self old); endx = self .endx || b .end })) ⌝ }
-    {
-        self.addr = at;
-        self.nibble_idx = 0;
-        self.buffer_fill = 16;
-        self.prev1 = b.prev1;
-        self.prev2 = b.prev2;
-        self.block_end = b.end;
-        self.endx = self.endx | b.end;
-        self
-    }
-
-    fn placed(self, at: u16, b: Block) -> Self
-        ensures { λ r. ⌜ ((v : Voice) (old new : List ℤ) → asSounding v r new ≡ withBlock at (asSounding v self old) (asDecoded b new)) ⌝ }
-    {
-        let p = self.filled(at, b);
-        if b.end & !b.loops { p.muted() } else { p }
-    }
-
-    fn decoded_at(self, ram: &[u8], samples: &mut [i16], at: u16) -> Self
-        requires { ⌜ (length (now ram) ≡ 0x10000) × (length (now samples) ≡ 16) ⌝ }
-        ensures { λ r. ⌜ ((v : Voice) → asSounding v r (now (samples .exit)) ≡ decodedAt (now (ram .entry)) at (asSounding v self (now (samples .entry)))) ⌝ }
-    {
-        let b = decode_brr_block(ram, at, self.prev1, self.prev2, samples);
-        self.placed(at, b)
     }
 
     // The block after this one. A loop jump reads DIR and SRCN of this moment, so that a driver may move loop
     // points while a note plays.
     fn next_address(self, ram: &[u8], dir: u8, srcn: u8) -> u16
         requires { ⌜ length (now ram) ≡ 0x10000 ⌝ }
-        ensures { λ r. ⌜ ((samples : List ℤ) → r ≡ nextAddress (now (ram .entry)) dir srcn (asBrr self samples)) ⌝ }
+        ensures { λ r. ⌜ ((p : Play) (samples : List ℤ) → r ≡ nextAddress (now (ram .entry)) dir srcn (asBrr p self samples)) ⌝ }
     {
         if self.block_end {
             let entry = numbers::wrapping_add16((dir as u16) * 256, (srcn as u16) * 4);
@@ -129,139 +107,159 @@ impl Play {
         }
     }
 
-    fn next_block(self, ram: &[u8], samples: &mut [i16], dir: u8, srcn: u8) -> Self
-        requires { ⌜ (length (now ram) ≡ 0x10000) × (length (now samples) ≡ 16) ⌝ }
-        ensures { λ r. ⌜ ((v : Voice) → asSounding v r (now (samples .exit)) ≡ nextBlock (now (ram .entry)) dir srcn (asSounding v self (now (samples .entry)))) ⌝ }
-    {
-        let at = self.next_address(ram, dir, srcn);
-        self.decoded_at(ram, samples, at)
-    }
-
     // On the first tick after key-on the address is still that of the directory entry.
-    fn resolved(self, ram: &[u8], samples: &mut [i16]) -> Self
-        requires { ⌜ (length (now ram) ≡ 0x10000) × (length (now samples) ≡ 16) ⌝ }
-        ensures { λ r. ⌜ ((v : Voice) → asSounding v r (now (samples .exit)) ≡ resolved (now (ram .entry)) (asSounding v self (now (samples .entry)))) ⌝ }
+    fn block_at(self, ram: &[u8], dir: u8, srcn: u8) -> u16
+        requires { ⌜ length (now ram) ≡ 0x10000 ⌝ }
+        ensures { λ r. ⌜ ((p : Play) (samples : List ℤ) → r ≡ blockAddress (now (ram .entry)) dir srcn (asBrr p self samples)) ⌝ }
     {
         if self.buffer_fill == 0 {
-            let at = read_le16(ram, self.addr, 0);
-            self.decoded_at(ram, samples, at)
+            read_le16(ram, self.addr, 0)
         } else {
-            self
+            self.next_address(ram, dir, srcn)
         }
     }
 
-    // The next sample goes into the history, oldest first.
-    fn push_history(mut self, x: i16) -> Self
-        requires { ⌜ self .«nibble_idx» ≤ 15 ⌝ }
-        ensures { λ r. ⌜ ((v : Voice) (samples : List ℤ) → getD samples (self .«nibble_idx») (pos 0) ≡ x → asSounding v r samples ≡ pushedNext (asSounding v self samples)) ⌝ }
+    pub(crate) fn next_block(self, ram: &[u8], samples: &mut [i16], dir: u8, srcn: u8) -> Fed
+        requires { ⌜ (length (now ram) ≡ 0x10000) × (length (now samples) ≡ 16) ⌝ }
+        ensures { λ r. ⌜ ((p : Play) → let a = blockAddress (now (ram .entry)) dir srcn (asBrr p self (now (samples .entry))) in let b = decodeBlock (now (ram .entry)) a (self .prev1) (self .prev2) in (p .«nibble_idx» ≡ 0 → asBrr p (r .feed) (now (samples .exit)) ≡ blockOf a b) × (r .mutes ≡ (b .end && not (b .loops)))) ⌝ }
     {
-        let h = self.history;
-        self.history = [h[1], h[2], h[3], x];
-        self.nibble_idx += 1;
-        self
+        let at = self.block_at(ram, dir, srcn);
+        let b = decode_brr_block(ram, at, self.prev1, self.prev2, samples);
+        let feed = Feed {
+            addr: at,
+            buffer_fill: 16,
+            prev1: b.prev1,
+            prev2: b.prev2,
+            block_end: b.end,
+        };
+        Fed {
+            feed,
+            mutes: b.end & !b.loops,
+        }
     }
+}
 
-    // One sample, and the block change after the sixteenth.
-    fn take_one(self, ram: &[u8], samples: &mut [i16], dir: u8, srcn: u8) -> Self
-        requires { ⌜ (length (now ram) ≡ 0x10000) × (length (now samples) ≡ 16) × (self .«nibble_idx» ≤ 15) ⌝ }
-        ensures { λ r. ⌜ ((v : Voice) → asSounding v r (now (samples .exit)) ≡ takeOne (now (ram .entry)) dir srcn (asSounding v self (now (samples .entry)))) ⌝ }
+impl Play {
+    pub(crate) fn keyed_on() -> Self
+        ensures { λ r. ⌜ (r .«key_on» ≡ true) × (r .«nibble_idx» ≡ 0) × (r .«pitch_counter» ≡ 0) × (historyOf r ≡ replicate 4 (pos 0)) ⌝ }
     {
-        let k = self.nibble_idx as usize;
-        let p = self.push_history(samples[k]);
-        if self.nibble_idx == 15 {
-            p.next_block(ram, samples, dir, srcn)
-        } else {
-            p
+        Play {
+            key_on: true,
+            nibble_idx: 0,
+            pitch_counter: 0,
+            oldest: 0,
+            older: 0,
+            newer: 0,
+            newest: 0,
         }
     }
 
-    // Samples one by one. A block change with key_on clear drops the tick's further ones, in Release too.
-    fn consume(self, ram: &[u8], samples: &mut [i16], dir: u8, srcn: u8, n: u16) -> Self
-        requires { ⌜ (length (now ram) ≡ 0x10000) × (length (now samples) ≡ 16) × FitBrr (asBrr self (now samples)) ⌝ }
-        ensures { λ r. ⌜ ((v : Voice) → asSounding v r (now (samples .exit)) ≡ consume (now (ram .entry)) dir srcn n (asSounding v self (now (samples .entry)))) ⌝ }
+    pub(crate) fn keyed_off(self) -> Self
+        ensures { λ r. ⌜ r ≡ hushedPlay self ⌝ }
     {
-        let mut p = self;
-        let mut left = n;
-        while left > 0 {
-            let last = p.nibble_idx == 15;
-            p = p.take_one(ram, samples, dir, srcn);
-            if last & !p.key_on {
-                return p;
-            }
-            left -= 1;
+        Play {
+            key_on: false,
+            nibble_idx: self.nibble_idx,
+            pitch_counter: self.pitch_counter,
+            oldest: self.oldest,
+            older: self.older,
+            newer: self.newer,
+            newest: self.newest,
         }
-        p
     }
 
-    fn is_idle(self) -> bool
-        ensures { λ r. ⌜ ((v : Voice) (samples : List ℤ) → r ≡ idle (asVoice v self samples)) ⌝ }
+    // The next n samples of the block go into the history, oldest first.
+    fn heard(self, samples: &[i16], n: u8) -> Self
+        requires { ⌜ (length (now samples) ≡ 16) × (self .«nibble_idx» + n ≤ 16) ⌝ }
+        ensures { λ r. ⌜ ((v : Voice) (e : Envelope) (f : Feed) (endx : Bool) → asSounding v e r f (now (samples .entry)) endx ≡ pushedOn n (asSounding v e self f (now (samples .entry)) endx)) ⌝ }
     {
-        let e = self.envelope;
-        let phase = e.phase;
-        !self.key_on & is_off(phase)
+        let mut a = self.oldest;
+        let mut b = self.older;
+        let mut c = self.newer;
+        let mut d = self.newest;
+        let mut i = self.nibble_idx as usize;
+        let end = i + n as usize;
+        while i < end {
+            a = b;
+            b = c;
+            c = d;
+            d = samples[i];
+            i += 1;
+        }
+        let k = end as u8;
+        Play {
+            key_on: self.key_on,
+            nibble_idx: k,
+            pitch_counter: self.pitch_counter,
+            oldest: a,
+            older: b,
+            newer: c,
+            newest: d,
+        }
     }
 
-    // Pitch, then the samples that the position passes.
-    fn advanced(
-        self,
-        ram: &[u8],
-        samples: &mut [i16],
-        dir: u8,
-        srcn: u8,
-        pitch: u16,
-        source: Source,
-    ) -> Self
-        requires { ⌜ (length (now ram) ≡ 0x10000) × (length (now samples) ≡ 16) × FitBrr (asBrr self (now samples)) ⌝ }
-        ensures { λ r. ⌜ ((v : Voice) → v .pitch ≡ pitch → asSounding v r (now (samples .exit)) ≡ advanced (now (ram .entry)) dir srcn (asSource source) (asSounding v self (now (samples .entry)))) ⌝ }
+    // Pitch, then the samples that the position passes. At most seven go in a tick, so that the block changes once at most.
+    pub(crate) fn advanced(self, samples: &[i16], fill: u8, pitch: u16, source: Source) -> Begun
+        requires { ⌜ (length (now samples) ≡ 16) × (self .«nibble_idx» ≤ 15) ⌝ }
+        ensures { λ r. ⌜ ((v : Voice) (e : Envelope) (f : Feed) (endx : Bool) → v .pitch ≡ pitch → f .«buffer_fill» ≡ fill → let s = asSounding v e self f (now (samples .entry)) endx in (asSounding v e (r .play) f (now (samples .entry)) endx ≡ begunOf (asSource source) s) × (r .due ≡ dueOf (asSource source) s) × (r .rest ≡ restLeft (asSource source) s)) ⌝ }
     {
         let old = self.pitch_counter % 0x4000;
-        let at = self.position_of(pitch, source);
-        let n = at / 0x1000 - old / 0x1000;
-        let mut p = self;
-        p.pitch_counter = at;
-        p.consume(ram, samples, dir, srcn, n)
-    }
-
-    fn interpolated(mut self, table: &[i16]) -> Self
-        requires { ⌜ now table ≡ weights ⌝ }
-        ensures { λ r. ⌜ ((v : Voice) (samples : List ℤ) → _≡_ {A = Sounding} (asSounding v r samples) (record { voice = interpolated (asVoice v self samples); endx = self .endx })) ⌝ }
-    {
-        let h = self.history;
-        self.current_sample = interpolate(table, self.pitch_counter, h);
-        self
-    }
-
-    // One tick of a voice that its key-on delay does not hold. An idle voice keeps its ENVX.
-    pub(crate) fn step(
-        self,
-        s: Settings,
-        pitch: u16,
-        source: Source,
-        envx: u8,
-        dir: u8,
-        srcn: u8,
-        table: &[i16],
-        rates: &[u16],
-        ram: &[u8],
-        samples: &mut [i16],
-    ) -> Shown
-        requires { ⌜ (now table ≡ weights) × (now rates ≡ periods) × (length (now ram) ≡ 0x10000) × (length (now samples) ≡ 16) × FitAdsr (asAdsr s (self .envelope)) × FitBrr (asBrr self (now samples)) ⌝ }
-        ensures { λ r. ⌜ ((v : Voice) → v .pitch ≡ pitch → settingsOf (v .adsr) ≡ s → _≡_ {A = Stepped} (record { sounding = asSounding v (r .play) (now (samples .exit)); envx = r .envx }) (voiceStep (now (ram .entry)) dir srcn (asSource source) envx (asSounding v self (now (samples .entry))))) ⌝ }
-    {
-        let e = self.envelope;
-        let f = e.update_envelope(rates, s);
-        let mut p = self;
-        p.envelope = f;
-        if p.is_idle() {
-            return Shown { play: p, envx };
+        let at = position_of(self.pitch_counter, pitch, source);
+        let n = (at / 0x1000 - old / 0x1000) as u8;
+        let p = Play {
+            key_on: self.key_on,
+            nibble_idx: self.nibble_idx,
+            pitch_counter: at,
+            oldest: self.oldest,
+            older: self.older,
+            newer: self.newer,
+            newest: self.newest,
+        };
+        let room = if fill == 0 { 0 } else { 16 - self.nibble_idx };
+        let due = n >= room;
+        let take = if due { room } else { n };
+        let q = p.heard(samples, take);
+        Begun {
+            play: q,
+            due,
+            rest: n - take,
         }
-        let q = p.resolved(ram, samples);
-        let r = q.advanced(ram, samples, dir, srcn, pitch, source);
-        let t = r.interpolated(table);
-        let g = t.envelope;
-        Shown {
-            play: t,
-            envx: (g.level / 16) as u8,
+    }
+
+    pub(crate) fn sounded(self, table: &[i16]) -> i16
+        requires { ⌜ now table ≡ weights ⌝ }
+        ensures { λ r. ⌜ r ≡ interpolateZ (self .«pitch_counter») (historyOf self) ⌝ }
+    {
+        interpolate(
+            table,
+            self.pitch_counter,
+            [self.oldest, self.older, self.newer, self.newest],
+        )
+    }
+}
+
+impl Begun {
+    // Behind a block change: it drops the tick's further samples where key_on is clear, in Release too; the first
+    // block after key-on does not.
+    pub(crate) fn resumed(self, first: bool, mutes: bool, samples: &[i16]) -> Play
+        requires { ⌜ (length (now samples) ≡ 16) × (self .rest ≤ 7) ⌝ }
+        ensures { λ r. ⌜ ((q : Play) → q .«key_on» ≡ (self .play .«key_on» && not mutes) → q .«nibble_idx» ≡ 0 → q .«pitch_counter» ≡ self .play .«pitch_counter» → historyOf q ≡ historyOf (self .play) → (v : Voice) (e : Envelope) (f : Feed) (endx : Bool) → asSounding v e r f (now (samples .entry)) endx ≡ goneOn first (self .rest) (asSounding v e q f (now (samples .entry)) endx)) ⌝ }
+    {
+        let p = self.play;
+        let on = p.key_on & !mutes;
+        let q = Play {
+            key_on: on,
+            nibble_idx: 0,
+            pitch_counter: p.pitch_counter,
+            oldest: p.oldest,
+            older: p.older,
+            newer: p.newer,
+            newest: p.newest,
+        };
+        if first | on {
+            q.heard(samples, self.rest)
+        } else {
+            q
         }
     }
 }

@@ -2,7 +2,7 @@
 -- machine's masks give it.
 use mathlib.Core.Bool.{Bool, true, false, not}
 use mathlib.Core.Logic.{_≢_}
-use mathlib.Core.Path.{_≡_, refl, sym, _∙_}
+use mathlib.Core.Path.{_≡_, refl, sym, ap, subst, _∙_}
 use Prim.Native.Nat.{ℕ, zero, suc, _+_, _-_, _*_, _/_, _%_, _^_, _≤_, _<_}
 use native.Mathlib.Omega.{arith}
 use native.Mathlib.Nat.{le-trans, mod-le, mul-le-mul-right, pow-suc, div-mul-le-self, mod-eq-of-lt}
@@ -84,6 +84,29 @@ bit-here x n on = rw (with-digit x n n on, eq-eqb n n refl) (one-bit on)
 
 pub bit-there : (x n k : ℕ) (on : Bool) → k ≢ n → bit (withBit x n on) k ≡ bit x k
 bit-there x n k on h = rw (with-digit x n k on, ne-eqb k n h)
+
+-- what it had is what is put back
+pub with-own : (x n : ℕ) → withBit x n (bit x n) ≡ x
+unfolding withBit
+with-own x n =
+    let d = digit x n in
+    let l : d * 2 ^ n ≤ x = digit-le x n in
+    elim (ℕ-discrete d 1) [
+      | yes e ↦ let m : 1 * 2 ^ n ≤ x = subst (λ (k : ℕ). k * 2 ^ n ≤ x) e l in rw (eq-eqb d 1 e, e) (omega arith)
+      | no e ↦ let z : d ≡ 0 = omega arith in rw (ne-eqb d 1 e, z) (omega arith)
+    ]
+
+-- the second of two is what stands
+pub with-twice : (x n : ℕ) (a b : Bool) → withBit (withBit x n a) n b ≡ withBit x n b
+unfolding withBit
+with-twice x n true b =
+    let rest = x - digit x n * 2 ^ n in
+    let e : digit (rest + 2 ^ n) n ≡ 1 = with-digit x n n true ∙ ap (λ (t : Bool). if t then 1 else digit x n) (eq-eqb n n refl) in
+    ap (λ (k : ℕ). rest + 2 ^ n - k * 2 ^ n + (if b then 2 ^ n else 0)) e ∙ omega arith
+with-twice x n false b =
+    let rest = x - digit x n * 2 ^ n in
+    let e : digit (rest + 0) n ≡ 0 = with-digit x n n false ∙ ap (λ (t : Bool). if t then 0 else digit x n) (eq-eqb n n refl) in
+    ap (λ (k : ℕ). rest + 0 - k * 2 ^ n + (if b then 2 ^ n else 0)) e ∙ omega arith
 
 -- it has no more digits
 with-below : (w x n : ℕ) (on : Bool) → x < 2 ^ w → n < w → withBit x n on < 2 ^ w

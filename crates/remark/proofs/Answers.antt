@@ -13,7 +13,7 @@ use Rattle.dsp.specs.PowerOn.{newDsp}
 use Rattle.dsp.specs.declared.registers.Dsp.{Dsp}
 use Rattle.log.specs.Measure.{measureOf}
 use Rattle.log.specs.declared.Measured.{Measured}
-use Rattle.sitting.specs.Run.{Outcome}
+use Rattle.dsp.specs.Run.{Outcome}
 use Rattle.rework.specs.Rework.{Left, reworkOf}
 use Rattle.report.specs.Runs.{roomFor, roomWithin, roomIn, runCut, registersIn}
 use Rattle.report.specs.declared.runs.Room.{Room}

@@ -9,7 +9,7 @@ use Rattle.numbers.specs.Unsigned.{least}
 use Rattle.dsp.specs.PowerOn.{newDsp}
 use Rattle.dsp.specs.declared.registers.Dsp.{Dsp}
 use Rattle.log.specs.Measure.{measureOf}
-use Rattle.sitting.specs.Run.{Outcome}
+use Rattle.dsp.specs.Run.{Outcome}
 use Rattle.rework.specs.Rework.{Left, reworkOf}
 use Rattle.report.specs.Runs.{roomIn, runCut, registersIn}
 use Rattle.report.specs.declared.runs.Room.{Room}

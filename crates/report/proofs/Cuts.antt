@@ -7,7 +7,7 @@ use lib.ListN.{length, take}
 use Rattle.dsp.specs.declared.registers.Dsp.{Dsp}
 use Rattle.log.specs.Measure.{measureOf}
 use Rattle.log.specs.declared.Measured.{Measured}
-use Rattle.sitting.specs.Run.{Outcome, runOf}
+use Rattle.dsp.specs.Run.{Outcome, runOf}
 use Rattle.report.specs.Digest.{empty, digestOf, leftBy}
 use Rattle.report.specs.Runs.{roomFor, roomWithin, roomIn, withRest, runIn, runCut, leftIn, leftOf, Through, through}
 use Rattle.report.specs.declared.left.Left.{Left}

@@ -11,7 +11,7 @@ use Rattle.log.specs.Log.{decode}
 use Rattle.log.specs.Measure.{measureOf}
 use Rattle.log.specs.declared.Record.{Record}
 use Rattle.log.specs.declared.Record.the-variants.{Write, Ticks, Reading}
-use Rattle.sitting.specs.Run.{Outcome, runOf}
+use Rattle.dsp.specs.Run.{Outcome, runOf}
 use Rattle.report.specs.Digest.{empty, digestOf, leftBy}
 use Rattle.report.specs.declared.left.Left.{Left}
 use Rattle.report.specs.declared.runs.Room.{Room}

@@ -5,7 +5,7 @@ ghost use lib.ListN.{length};
 ghost use Rattle.io.specs.Counts.{Counts};
 ghost use Rattle.numbers.specs.Bytes.{copied};
 ghost use Rattle.numbers.specs.Unsigned.{least as leastOf};
-ghost use Rattle.sitting.specs.Run.{Outcome, runOf};
+ghost use Rattle.dsp.specs.Run.{Outcome, runOf};
 ghost use Rattle.report.specs.Digest.{digestOf, leftBy};
 ghost use Rattle.report.specs.Runs.{roomFor, roomWithin, startFrom, runCut, leftOf, Through, through, wholeOf, registersIn};
 use crate::digest::EMPTY;

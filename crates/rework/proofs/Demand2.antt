@@ -15,7 +15,7 @@ use Rattle.dsp.proofs.Whole.{tick-whole, tick-renders}
 use Rattle.log.specs.Log.{decode}
 use Rattle.log.specs.declared.Record.{Record}
 use Rattle.log.specs.declared.Record.the-variants.{Write, Ticks, Reading}
-use Rattle.sitting.specs.Play.{play, playAll, starting}
+use Rattle.dsp.specs.Play.{play, playAll, starting}
 use Rattle.rework.specs.Demands.{Played, afterTick, tickBy, logBy, playedIn, Demand2}
 use Rattle.rework.proofs.Tape.{Beat, ticksThen, beats, Small}
 use Rattle.rework.proofs.Beats.{small-beats}

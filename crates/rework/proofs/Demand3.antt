@@ -17,8 +17,8 @@ use Rattle.log.specs.Measure.{measureOf}
 use Rattle.log.specs.declared.Record.{Record}
 use Rattle.log.specs.declared.Record.the-variants.{Write, Ticks, Reading}
 use Rattle.log.proofs.Turn.{taken}
-use Rattle.sitting.specs.Play.{Run, playAll, starting}
-use Rattle.sitting.specs.Run.{ran, runOf}
+use Rattle.dsp.specs.Play.{Run, playAll, starting}
+use Rattle.dsp.specs.Run.{ran, runOf}
 use Rattle.rework.specs.Alike.{without, sameRecord, sameRecords, alike}
 use Rattle.rework.specs.Members.{modesOf, quiet, members}
 use Rattle.rework.specs.Differ.{SameBut}

@@ -17,7 +17,7 @@ use Rattle.log.specs.Measure.{ticksIn, readingsIn, measureOf}
 use Rattle.log.specs.declared.Record.{Record}
 use Rattle.log.specs.declared.Record.the-variants.{Write, Ticks, Reading}
 use Rattle.log.proofs.Turn.{taken}
-use Rattle.sitting.specs.Run.{Outcome, runOf}
+use Rattle.dsp.specs.Run.{Outcome, runOf}
 use Rattle.rework.specs.Alike.{stays, without}
 use Rattle.rework.specs.Members.{modesOf, quiet}
 use Rattle.rework.specs.Rework.{Left, refusalOf, reworkOf, reworkNewOf}

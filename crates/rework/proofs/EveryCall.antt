@@ -23,7 +23,7 @@ use Rattle.log.specs.declared.Record.the-variants.{Write, Ticks, Reading}
 use Rattle.log.specs.declared.Next.{Next}
 use Rattle.log.specs.declared.Next.the-variants.{On, Off}
 use Rattle.log.proofs.Places.{moves, ByteValue, byte-value}
-use Rattle.sitting.specs.Run.{runWith, runOf}
+use Rattle.dsp.specs.Run.{runWith, runOf}
 use Rattle.sitting.specs.Parts.{Told, Parted, stopAt, recordAt, nextAt, ticksNow, sounding, logRefusal, partOf}
 use Rattle.numbers.specs.Listed.{listed}
 use Rattle.rework.specs.Rework.{picked, endParts, setOf, only, Left, refusalOf, reworkOf, reworkNewOf}

@@ -38,8 +38,8 @@ use Rattle.dsp.specs.declared.voice.Voice.{Voice}
 use Rattle.dsp.specs.declared.registers.Dsp.{Dsp}
 use Rattle.log.specs.Log.{writeRecord, ticksRecord, readingRecord, byMark, readAt, decodeFrom, decode}
 use Rattle.log.specs.Measure.{measureOf}
-use Rattle.sitting.specs.Run.{Outcome, runOf, runMeasured, runWith}
-use Rattle.sitting.specs.Play.{play, playAll}
+use Rattle.dsp.specs.Run.{Outcome, runOf, runMeasured, runWith}
+use Rattle.dsp.specs.Play.{play, playAll}
 use Rattle.rework.specs.Members.{modesOf, quiet, joinedBy, joinedOver, members, voicesIn}
 use Rattle.rework.specs.Rework.{Left, picked, refusalOf, reworkOf}
 use Rattle.rework.specs.Refusals.{firstOf}

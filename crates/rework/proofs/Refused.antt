@@ -19,7 +19,7 @@ use Rattle.log.specs.declared.Record.the-variants.{Write, Ticks, Reading}
 use Rattle.log.specs.declared.Next.{Next}
 use Rattle.log.specs.declared.Next.the-variants.{On, Off}
 use Rattle.log.specs.declared.Measured.{Measured}
-use Rattle.sitting.specs.Run.{unrun, runMeasured, runWith}
+use Rattle.dsp.specs.Run.{unrun, runMeasured, runWith}
 use Rattle.sitting.specs.Parts.{Told, Parted, untold, unparted, stopAt, recordAt, nextAt, ticksNow, sounding, logRefusal, partOf}
 use Rattle.rework.specs.Refusals.{_when_, firstOf, ramIsNotWhole, isUnfit, isTooLong, faultOf}
 use Rattle.rework.specs.Alike.{alike}

@@ -14,7 +14,7 @@ use Rattle.numbers.proofs.Parts.{copied-whole}
 use Rattle.dsp.specs.Machine.{apart, together}
 use Rattle.dsp.specs.PowerOn.{newDsp}
 use Rattle.dsp.specs.declared.registers.Dsp.{Dsp}
-use Rattle.sitting.specs.Run.{Outcome, runWith, runOf}
+use Rattle.dsp.specs.Run.{Outcome, runWith, runOf}
 use Rattle.rework.specs.Members.{voicesIn}
 use Rattle.rework.specs.Rework.{Left, endParts, refusalOf, setOf, only, reworked, reworkOf, afterFirst, reworkNewOf}
 

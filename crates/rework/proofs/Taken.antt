@@ -14,8 +14,8 @@ use Rattle.dsp.specs.declared.tick.Work.{Work}
 use Rattle.dsp.proofs.Tests.{eq, _and_}
 use Rattle.log.specs.Log.{decode}
 use Rattle.log.specs.Measure.{measureOf}
-use Rattle.sitting.specs.Play.{playAll, starting}
-use Rattle.sitting.specs.Run.{Outcome, ran, runMeasured, runWith}
+use Rattle.dsp.specs.Play.{playAll, starting}
+use Rattle.dsp.specs.Run.{Outcome, ran, runMeasured, runWith}
 
 pub record Fitting (d : Dsp) (ram log pcm sheet readings : List ℕ) : Type 0 where
   pub ram-whole : length ram ≡ 0x10000

@@ -7,7 +7,7 @@ use Rattle.dsp.specs.Ticks.{Bench, onward, benchTick, benchWrite, ticksOf}
 use Rattle.dsp.specs.declared.tick.Work.{Work}
 use Rattle.log.specs.declared.Record.{Record}
 use Rattle.log.specs.declared.Record.the-variants.{Write, Ticks, Reading}
-use Rattle.sitting.specs.Play.{Run, registerIn, play, playAll}
+use Rattle.dsp.specs.Play.{Run, registerIn, play, playAll}
 use Rattle.rework.proofs.Tape.{Beat, tick, ticksThen, beats, Tape, behindTick, behindReading, tape}
 
 -- x: a run that played the beats of t, from a bench and readings so far

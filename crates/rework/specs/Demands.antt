@@ -24,7 +24,7 @@ use Rattle.log.specs.declared.Record.the-variants.{Write, Ticks, Reading}
 use Rattle.log.specs.declared.Measured.{Measured}
 use Rattle.log.specs.declared.Next.{Next}
 use Rattle.log.specs.declared.Next.the-variants.{On, Off}
-use Rattle.sitting.specs.Run.{Outcome, unrun, runWith, runOf}
+use Rattle.dsp.specs.Run.{Outcome, unrun, runWith, runOf}
 use Rattle.sitting.specs.Parts.{Parted, unparted, partOf}
 use Rattle.rework.specs.Refusals.{_when_, firstOf, ramIsNotWhole, isUnfit, isTooLong, isNotAsLong, faultOf}
 use Rattle.rework.specs.Alike.{without, alike}

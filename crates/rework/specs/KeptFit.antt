@@ -9,7 +9,7 @@ use Rattle.dsp.specs.Registers.{writeOf}
 use Rattle.dsp.specs.Ticks.{stepOf, driveOf}
 use Rattle.dsp.specs.declared.registers.Dsp.{Dsp}
 use Rattle.dsp.specs.declared.tick.Work.{Work}
-use Rattle.sitting.specs.Run.{runWith}
+use Rattle.dsp.specs.Run.{runWith}
 use Rattle.sitting.specs.Parts.{partOf}
 use Rattle.rework.specs.Rework.{reworkOf, reworkNewOf}
 use Rattle.rework.specs.Demands.{IsRecord, Bytes}

@@ -17,7 +17,7 @@ use Rattle.dsp.specs.Ticks.{refused, stepOf, undriven}
 use Rattle.dsp.specs.declared.registers.Dsp.{Dsp}
 use Rattle.dsp.specs.declared.voice.Voice.{Voice}
 use Rattle.log.specs.Measure.{unmeasured}
-use Rattle.sitting.specs.Run.{Outcome, unrun, runOf}
+use Rattle.dsp.specs.Run.{Outcome, unrun, runOf}
 use Rattle.sitting.specs.Parts.{unparted}
 use Rattle.rework.specs.Rework.{Left, unreworked, reworkOf}
 use Rattle.rework.specs.Demands.{Chip, RefusesByTheTable}

@@ -13,7 +13,7 @@ use Rattle.dsp.specs.declared.registers.Dsp.{Dsp}
 use Rattle.dsp.specs.declared.tick.Work.{Work}
 use Rattle.log.specs.Log.{decode}
 use Rattle.log.specs.Measure.{measureOf}
-use Rattle.sitting.specs.Run.{Outcome, runWith, runOf}
+use Rattle.dsp.specs.Run.{Outcome, runWith, runOf}
 use Rattle.rework.specs.Alike.{alike}
 use Rattle.rework.specs.Members.{modesOf, quiet, members, voicesIn}
 

@@ -1,5 +1,3 @@
-pub mod Batch
-pub mod Plays
 pub mod Runs
 pub mod Parting
 pub mod Together

@@ -28,9 +28,9 @@ use Rattle.log.specs.declared.Record.the-variants.{Write, Ticks, Reading}
 use Rattle.log.specs.declared.Next.{Next}
 use Rattle.log.specs.declared.Next.the-variants.{On, Off}
 use Rattle.log.proofs.Places.{opened-at, closed-at}
-use Rattle.sitting.specs.Play.{Run, registerIn, play, playAll, starting}
+use Rattle.dsp.specs.Play.{Run, registerIn, play, playAll, starting}
 use Rattle.sitting.specs.Parts.{Parted, unparted, stopAt, recordAt, nextAt, ticksNow, sounding, logRefusal, partOf, Rest, restIn, restOf, ahead, PartAfterPart, PartsBegin, PartsEnd}
-use Rattle.sitting.specs.Run.{Outcome, runMeasured, runWith}
+use Rattle.dsp.specs.Run.{Outcome, runMeasured, runWith}
 use Rattle.sitting.specs.declared.parts.Heard.the-variants.{End}
 use Rattle.sitting.proofs.Runs.{all-unseen}
 

@@ -17,8 +17,8 @@ use Rattle.log.specs.declared.Record.{Record}
 use Rattle.log.specs.declared.Record.the-variants.{Write, Ticks, Reading}
 use Rattle.log.specs.declared.Next.{Next}
 use Rattle.log.specs.declared.Next.the-variants.{On, Off}
-use Rattle.sitting.specs.Play.{Run, playAll, starting}
-use Rattle.sitting.specs.Run.{runOf}
+use Rattle.dsp.specs.Play.{Run, playAll, starting}
+use Rattle.dsp.specs.Run.{runOf}
 use Rattle.sitting.specs.declared.parts.Heard.{Heard}
 use Rattle.sitting.specs.declared.parts.Heard.the-variants.{Nothing, Sound, Reading as Read, End}
 use Rattle.sitting.specs.declared.parts.Part.{Part}

@@ -1,17 +1,11 @@
 // A run of a log from a record, or from the power-on record.
 ghost use mathlib.Core.Path.{_≡_};
-ghost use mathlib.Core.Bool.{_&&_};
-ghost use Prim.Native.Nat.{_*_, _≤_};
-ghost use Rattle.numbers.specs.Choice.{_=?_};
 ghost use Rattle.dsp.specs.PowerOn.{newDsp};
 ghost use Rattle.dsp.specs.Tick.{everything};
-ghost use Rattle.sitting.specs.Run.{Outcome, runWith, runOf};
-use crate::play::play_all;
+ghost use Rattle.dsp.specs.Run.{Outcome, runWith, runOf};
 use dsp::Dsp;
-use dsp::RAM_SIZE;
 use dsp::Work;
-use log::Measured;
-use log::measure;
+use dsp::play_log;
 
 // 0 or the refusal, the record, and how many ticks and readings were put out.
 pub struct Ran {
@@ -19,17 +13,6 @@ pub struct Ran {
     pub dsp: Dsp,
     pub ticks: u32,
     pub readings: u32,
-}
-
-fn refused(refusal: u8, dsp: Dsp) -> Ran
-    ensures { λ r. ⌜ (r .refusal ≡ refusal) × (r .dsp ≡ dsp) × (r .ticks ≡ 0) × (r .readings ≡ 0) ⌝ }
-{
-    Ran {
-        refusal,
-        dsp,
-        ticks: 0,
-        readings: 0,
-    }
 }
 
 // Every lane: all voices, and the echo.
@@ -40,15 +23,6 @@ pub(crate) fn everything() -> Work
         voices: 0xFF,
         echo: true,
     }
-}
-
-// Four bytes of PCM and 36 of sheet a tick, one byte a reading, exactly.
-fn is_room(m: Measured, pcm: usize, sheet: usize, readings: usize) -> bool
-    requires { ⌜ m .ticks ≤ 32000 ⌝ }
-    ensures { λ r. ⌜ r ≡ ((pcm =? m .ticks * 4) && (sheet =? m .ticks * 36) && (readings =? m .readings)) ⌝ }
-{
-    let t = m.ticks as usize;
-    (pcm == t * 4) & (sheet == t * 36) & (readings == m.readings as usize)
 }
 
 // Runs a log with some of the lanes; the others are shown from the sheet as it is lent. The whole log is checked before the first
@@ -64,25 +38,13 @@ pub fn run_with(
 ) -> Ran
     ensures { λ r. ⌜ _≡_ {A = Outcome} (record { refusal = r .refusal; dsp = r .dsp; ticks = r .ticks; count = r .readings; ram = now (ram .exit); pcm = now (pcm .exit); sheet = now (sheet .exit); readings = now (readings .exit) }) (runWith work start (now (ram .entry)) (now (log .entry)) (now (pcm .entry)) (now (sheet .entry)) (now (readings .entry))) ⌝ }
 {
-    if ram.len() != RAM_SIZE {
-        return refused(1, start);
-    }
-    if !start.is_fit() {
-        return refused(2, start);
-    }
-    let m = measure(log);
-    if m.refusal != 0 {
-        return refused(m.refusal, start);
-    }
-    if !is_room(m, pcm.len(), sheet.len(), readings.len()) {
-        return refused(10, start);
-    }
-    let d = play_all(work, start, ram, log, pcm, sheet, readings);
+    let p = play_log(work, start, ram, log, pcm, sheet, readings);
+    let dsp = p.dsp;
     Ran {
-        refusal: 0,
-        dsp: d,
-        ticks: m.ticks,
-        readings: m.readings,
+        refusal: p.refusal,
+        dsp,
+        ticks: p.ticks,
+        readings: p.readings,
     }
 }
 

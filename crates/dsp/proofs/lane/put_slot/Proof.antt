@@ -11,22 +11,20 @@ use Rattle.dsp.proofs.lane.put_slot.Tie as tie
 returns : tie.Need-returns
 unfolding laneBytes
 returns c =
-    let s = c .before .before .before .before .before in
-    rw (c .before .before .before .if1 .taken)
-    (filled (c .before .before .low .result ∷ c .before .high .result ∷ s .args .envx ∷ c .flag .result ∷ []) (s .args .slot .now) (s .pre)
-    ∙ rw (c .before .before .low .ensures, c .before .high .ensures, c .flag .ensures, toZ-ofZ (s .fits .out)))
+    let s = c .before .before .before .before in
+    filled (c .before .before .low .result ∷ c .before .high .result ∷ s .args .envx ∷ c .flag .result ∷ []) (s .args .slot .now) (s .pre)
+    ∙ rw (c .before .before .low .ensures, c .before .high .ensures, c .flag .ensures, toZ-ofZ (s .fits .out))
 
 pub put-slot-spec : {M : Type 1} → statement M
 put-slot-spec =
     tie.close
     (tie.spec
-    (search needs)
-    (search needs)
-    (search needs)
+    (λ c κs. search needs)
+    (λ c. search needs)
+    (λ c κs. search needs)
     (λ c. search needs)
     (λ c. search needs)
-    (search needs)
+    (λ c κs. search needs)
     (λ c. search needs)
-    (search needs)
-    returns
-    (λ c. search needs))
+    (λ c. search needs)
+    returns)

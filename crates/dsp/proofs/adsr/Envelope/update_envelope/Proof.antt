@@ -15,7 +15,7 @@ by-phase : (p : EnvelopePhase) (a r : Adsr) → gains a ≡ false → a .«envel
 unfolding envelopeTick
 by-phase p a r h e t = rw h (t ∙ ap (λ (q : EnvelopePhase). phaseTick q a) (sym e))
 
-not-gained : (c : tie.Else1) → let a = c .before .before .before .args in gains (asAdsr (a .s) (a .self)) ≡ false
+not-gained : (c : tie.Else1) → let a = c .before .before .args in gains (asAdsr (a .s) (a .self)) ≡ false
 not-gained c = sym (c .before .gains .ensures) ∙ c .if1 .left
 
 returns : tie.Need-returns
@@ -36,7 +36,7 @@ returns-4 c = by-phase Sustain _ _ (not-gained (c .before .before .before)) (c .
 
 returns-5 : tie.Need-returns-5
 unfolding phaseTick
-returns-5 c = by-phase Release _ _ (not-gained (c .before .before .before)) (c .before .enum-told4 .given .1) (c .release .ensures (c .before .before .before .before .before .before .args .s))
+returns-5 c = by-phase Release _ _ (not-gained (c .before .before .before)) (c .before .enum-told4 .given .1) (c .release .ensures (c .before .before .before .before .before .args .s))
 
 returns-6 : tie.Need-returns-6
 unfolding phaseTick
@@ -48,16 +48,16 @@ update-envelope-spec =
     (tie.spec
     (search needs)
     (λ c κs. search needs)
+    (search needs)
+    (λ c κs. search needs)
+    (search needs)
+    (λ c κs. search needs)
+    (search needs)
+    (λ c κs. search needs)
+    (search needs)
+    (search needs)
+    (search needs)
     returns
-    (search needs)
-    (λ c κs. search needs)
-    (search needs)
-    (λ c κs. search needs)
-    (search needs)
-    (λ c κs. search needs)
-    (search needs)
-    (search needs)
-    (search needs)
     returns-2
     returns-3
     returns-4

@@ -1,4 +1,4 @@
--- By the two refusals, in their order; then one tick of drive, which works every lane.
+-- By the two refusals, in their order; then one tick of driven, which works every lane.
 use borrow.Author.Needs.{needs}
 use mathlib.Core.List.{[]}
 use mathlib.Core.Path.{_≡_, refl, sym, ap, _∙_}
@@ -20,8 +20,8 @@ returns : tie.Need-returns
 unfolding stepOf
 returns c = rw (ne-eqb _ _ (c .before .if1 .taken), c .refused .ensures .0, c .refused .ensures .1)
 
-drive-requires : tie.Need-drive-requires
-drive-requires c κs =
+driven-requires : tie.Need-driven-requires
+driven-requires c κs =
     let fit = c .before .before .before in
     (sized (fit .before .before), fit-facts _ (sym (fit .before .is-fit .ensures) ∙ fit .if2 .taken), omega arith, refl, refl)
 
@@ -30,7 +30,7 @@ unfolding stepOf ticksOf benchTick
 returns-2 c =
     let fit = c .before .before .before .before .before .before .before .before in
     let a = fit .before .before .before .before .args in
-    let d = c .before .before .before .before .drive .ensures .0 in
+    let d = c .before .before .before .before .driven .ensures .0 in
     let after : Bench → After = (λ (b : Bench). record { refusal = 0; dsp = together (b .parts); ram = b .ram }) in
     rw (eq-eqb _ _ (sized (fit .before .before)), ← fit .before .is-fit .ensures, fit .if2 .taken)
     (_∙_ {b = after (d 1)} (λ i. after (d i)) (ap ticked (tick-whole _ [] (apart (a .self)) (a .ram .now))))
@@ -49,7 +49,7 @@ step-spec =
     (search needs)
     (search needs)
     (search needs)
-    drive-requires
+    driven-requires
     (search needs)
     (search needs)
     returns-2

@@ -1,4 +1,4 @@
--- By the refusals, in their order; then drive.
+-- By the refusals, in their order; then driven.
 use borrow.Author.Needs.{needs}
 use mathlib.Core.Bool.{true}
 use mathlib.Core.Path.{_≡_, refl, sym, _∙_}
@@ -41,8 +41,8 @@ returns-4 c =
     rw (c .refused4 .ensures .0, c .refused4 .ensures .1, eq-eqb _ _ (sized (pcm .before .before .before)), fitting (pcm .before), eq-eqb _ _ (pcm .if3 .left), ne-eqb _ _ (c .before .if4 .taken))
     (refl, refl)
 
-drive-requires : tie.Need-drive-requires
-drive-requires c κs =
+driven-requires : tie.Need-driven-requires
+driven-requires c κs =
     let sheet = c .before .before .before in
     let fit = sheet .before .before in
     (sized (fit .before .before), fit-facts _ (fitting fit), omega (arith, fit .before .before .before .before .before .before .fits .count .fits), sheet .before .if3 .left, sheet .if4 .left)
@@ -53,7 +53,7 @@ returns-5 c =
     let drive = c .before .before .before .before .before .before in
     let sheet = drive .before .before .before .before in
     let f = fitting (sheet .before .before) in
-    let d = drive .drive .ensures in
+    let d = drive .driven .ensures in
     (rw (eq-eqb _ _ (sized (sheet .before .before .before .before)), f, eq-eqb _ _ (sheet .before .if3 .left), eq-eqb _ _ (sheet .if4 .left)) (λ i. drove (d .0 i)), facts-fit _ (d .1) ∙ sym f)
 
 pub ticks-spec : {M : Type 1} → statement M
@@ -71,7 +71,7 @@ ticks-spec =
     (search needs)
     (search needs)
     returns-4
-    drive-requires
+    driven-requires
     (search needs)
     (search needs)
     (search needs)

@@ -5,4 +5,4 @@ use Rattle.dsp.proofs.registers.Dsp.with_parts.Tie as tie
 
 pub with-parts-spec : {M : Type 1} → statement M
 with-parts-spec =
-    tie.close (tie.spec (search needs) (λ c. rw (c .with-glob .ensures) (search needs)))
+    tie.close (tie.spec (λ c κs. search needs) (λ c. rw (c .with-glob .ensures) (search needs)))
