@@ -1,7 +1,7 @@
 # lesson: builds the programs `bench` and `wavfile`, plays a lesson and leaves its sound. remark: builds the program `remark` and asks
-# it what of a sitting has to be marked again after a change of voice 3; leaves the sound of both sittings. c: builds the library for
-# C, and links and runs an example. test: the gate.
-.PHONY: lesson remark c test
+# it what of a sitting has to be marked again after a change of voice 3; leaves the sound of both sittings. class: builds the program
+# `bench` and renders a class of thirty. c: builds the library for C, and links and runs an example. test: the gate.
+.PHONY: lesson remark class c test
 lesson:
 	rt check bench wavfile
 	@tools/lesson/play lessons/voices.txt target/lesson || [ $$? -eq 3 ]
@@ -19,6 +19,11 @@ remark:
 	else \
 	    echo "It is not asked: target/bin/remark is made for x86-64 alone."; \
 	fi
+class:
+	rt check bench
+	@rm -rf target/class
+	@tools/class --make target/class
+	@tools/class target/class || [ $$? -eq 3 ]
 c:
 	rt check bench wavfile
 	tools/c/run

@@ -91,7 +91,7 @@ abbrev pub ofRework : ℕ → Dsp → Dsp → List ℕ → List ℕ → List ℕ
 ofRework s start end ram log₁ log₂ pcm sheet readings =
     (1 when ramIsNotWhole ram) ∷ (2 when isUnfit start) ∷ (2 when isUnfit end) ∷ ofLogs s start log₁ log₂ pcm sheet readings
 
--- what the entries give: `run` is `run_with` with every lane, `run_new` that from `new`
+-- what the entries give: `run` here is `play_log` of the chip and `run_with` above it; the entry `run` is that with every lane, `run_new` that from `new`
 pub record Chip : Type 0 where
   pub write : ℕ → ℕ → Dsp → Written
   pub render : Dsp → Rendered
