@@ -2,13 +2,12 @@
 use mathlib.Core.List.{List, _∷_, [], _++_}
 use mathlib.Core.Logic.{_≢_}
 use mathlib.Core.Path.{_≡_, refl, sym, ap, _∙_}
-use Prim.Native.Nat.{ℕ, zero, suc, _+_, _-_, _*_, _≤_, _<_}
+use Prim.Native.Nat.{ℕ, zero, suc, _+_, _-_, _<_}
 use native.Mathlib.Omega.{arith}
 use native.Mathlib.Decide.{ℕ-discrete, decLt}
 use lib.IntN.{ℤ, pos}
 use lib.ListN.{getD, set, length, length-set, length-append, List·getD-append}
 use lib.Seq.{getD-set-same, getD-set-other, getD-at, ext-getD}
-use borrow.Rule.Slice.PartMut.{putMid}
 use Rattle.numbers.specs.Listed.{listed}
 use Rattle.dsp.specs.Machine.{noVoice, Parts}
 use Rattle.dsp.specs.Inside.{asVoice, asGlobals, noDial, noEnvelope, noPlay, noFeed, samplesAt, voicesIn}

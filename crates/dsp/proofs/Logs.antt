@@ -1,7 +1,7 @@
 -- A log over the parts: where its loop stands, what each record does to the arrays, and that what is left of the log from there gives the
 -- whole run.
 use mathlib.Core.Bool.{Bool, true, false, _&&_}
-use mathlib.Core.List.{List, [], _∷_, _++_, map, append-nil}
+use mathlib.Core.List.{List, [], _++_, map, append-nil}
 use mathlib.Core.Path.{_≡_, refl, sym, ap, subst, _∙_}
 use Prim.Native.Nat.{ℕ, _+_, _-_, _*_, _/_, _%_, _≤_, _<_}
 use native.Mathlib.Omega.{arith}
@@ -9,9 +9,9 @@ use native.Mathlib.Decide.{ℕ-discrete, decLt}
 use lib.IntN.{ℤ, pos}
 use lib.ListN.{getD, set, length, length-set, length-map, take, drop, take-append-drop, drop-of-length-le}
 use lib.Seq.{take-all, ext-getD, getD-set-same, getD-set-other, set-getD}
-use borrow.Author.Tests.{eq-eqb, ne-eqb, lt-ltb, le-ltb, eqb-true}
+use borrow.Author.Tests.{ne-eqb, lt-ltb, le-ltb}
 use borrow.Rule.Slice.PartMut.{putMid, midOf, mid-len, post-is, same-len-mid}
-use Rattle.numbers.specs.Choice.{if_then_else_, _<?_, _=?_}
+use Rattle.numbers.specs.Choice.{if_then_else_, _=?_}
 use Rattle.numbers.specs.Bits.{bit}
 use Rattle.numbers.proofs.Parts.{one-more, written-to, done-is, rest-is, part-written}
 use Rattle.log.specs.Log.{Known, readAt, decodeFrom, decode}

@@ -2,19 +2,18 @@
 use mathlib.Core.Bool.{Bool, true, false, not, _&&_}
 use mathlib.Core.List.{List}
 use mathlib.Core.Path.{_≡_, refl, sym, ap, _∙_}
-use Prim.Native.Nat.{ℕ, zero, suc, _+_, _-_, _/_, _%_, _≤_, _<_}
+use Prim.Native.Nat.{ℕ, zero, suc, _+_, _-_, _≤_, _<_}
 use native.Mathlib.Nat.{sub-zero}
 use native.Mathlib.Omega.{arith}
 use native.Mathlib.Decide.{ℕ-discrete, decLt}
 use borrow.Author.Tests.{eq-eqb, ne-eqb, le-leb, lt-leb, lt-ltb, le-ltb}
-use lib.IntN.{ℤ}
 use Rattle.numbers.specs.Choice.{if_then_else_, _<?_, _=?_}
 use Rattle.numbers.proofs.Choice.{chosen, least-top}
 use Rattle.dsp.specs.With.{withPosition, withBrr, withNibble}
 use Rattle.dsp.specs.Ram.{wordAt}
 use Rattle.dsp.specs.Brr.{DecodedBlock, decodeBlock}
 use Rattle.dsp.specs.Voice.{Sounding, PitchSource, positionOf, samplesTaken, placed, decodedAt, nextAddress, nextBlock, resolved, pushed, pushedNext, lastOf, takeOne, consume, advanced}
-use Rattle.dsp.specs.Inside.{pushedOn, roomOf, begunOf, dueOf, restLeft, blockAddress, goneOn}
+use Rattle.dsp.specs.Inside.{pushedOn, begunOf, dueOf, restLeft, blockAddress, goneOn}
 use Rattle.dsp.specs.declared.voice.Voice.{Voice}
 use Rattle.dsp.proofs.Pitch.{seven}
 

@@ -1,10 +1,10 @@
 -- A voice's step with its samples taken at once, on plain values: what the parts of the code leave is what the definition gives.
 use mathlib.Core.Bool.{Bool, true, false}
 use mathlib.Core.List.{List}
-use mathlib.Core.Path.{_≡_, refl, sym, ap, _∙_}
+use mathlib.Core.Path.{_≡_, sym, ap, _∙_}
 use Prim.Native.Nat.{ℕ, _≤_}
 use lib.IntN.{ℤ}
-use Rattle.numbers.specs.Choice.{if_then_else_, _=?_}
+use Rattle.numbers.specs.Choice.{_=?_}
 use Rattle.dsp.specs.With.{withEnvelope}
 use Rattle.dsp.specs.Envelope.{envelopeTick}
 use Rattle.dsp.specs.Voice.{Sounding, PitchSource, decodedAt, idle, Stepped, shown, sounded, voiceStep}

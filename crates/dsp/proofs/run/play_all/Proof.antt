@@ -1,7 +1,7 @@
 -- The record is taken apart into arrays that stand for it (Made); each record of the log moves them on (Logs); where the log ends they are made
 -- into a record again.
 use borrow.Author.Needs.{needs}
-use mathlib.Core.Bool.{Bool, true, false, _&&_}
+use mathlib.Core.Bool.{Bool, _&&_}
 use mathlib.Core.List.{List, []}
 use mathlib.Core.Path.{_≡_, refl, sym, ap, subst, _∙_}
 use Prim.Native.Nat.{ℕ, _+_, _-_, _*_, _/_, _≤_, _<_}
@@ -10,18 +10,16 @@ use lib.ListN.{length, set, length-map}
 use borrow.Rule.Slice.PartMut.{mid-len}
 use Rattle.numbers.specs.Choice.{if_then_else_, _=?_, _≤?_}
 use Rattle.numbers.proofs.Bits.{top-bit}
-use Rattle.dsp.specs.Fit.{Fit}
 use Rattle.dsp.specs.Machine.{Parts, apart, together}
 use Rattle.dsp.specs.Registers.{resets}
-use Rattle.dsp.specs.Ticks.{benchOf}
-use Rattle.dsp.specs.Play.{Run, starting}
+use Rattle.dsp.specs.Play.{starting}
 use Rattle.dsp.specs.Inside.{asGlobals, voicesIn}
 use Rattle.dsp.specs.declared.adsr.Envelope.{Envelope}
 use Rattle.dsp.specs.declared.play.Play.{Play}
 use Rattle.dsp.specs.declared.voice.Voice.{Voice}
-use Rattle.dsp.proofs.Apart.{Arrays, arrays, Sized, voices-count, partsFrom}
+use Rattle.dsp.proofs.Apart.{Arrays, arrays, Sized, partsFrom}
 use Rattle.dsp.proofs.Made.{histories, dials-wound, voices-again}
-use Rattle.dsp.proofs.Ticks.{BenchFit, bench-fit, fit-bench}
+use Rattle.dsp.proofs.Ticks.{BenchFit, bench-fit}
 use Rattle.dsp.proofs.Logs.{Playing, standing, benchNow, Between, started, room, finished, hushedArrays, on-write, on-ticks, on-reading}
 use Rattle.log.specs.Log.{Known}
 use Rattle.log.specs.Measure.{ticksIn, readingsIn}

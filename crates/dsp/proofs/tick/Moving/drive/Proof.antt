@@ -1,7 +1,7 @@
 -- After v lanes the arrays stand for the definition's round after v turns; after i ticks they stand, with parts, samples and rows, for its bench
 -- after i ticks. A turn's ways join behind the poll, behind the block change, and behind the step.
 use borrow.Author.Needs.{needs}
-use borrow.Author.Tests.{not-true, not-false, eqb-true, eqb-false}
+use borrow.Author.Tests.{not-true, not-false}
 use mathlib.Core.Bool.{Bool, true, false, not, _&&_, _||_}
 use mathlib.Core.List.{List, []}
 use mathlib.Core.Logic.{⊎-elim}
@@ -21,11 +21,11 @@ use Rattle.numbers.specs.Bits.{bit}
 use Rattle.numbers.specs.Choice.{if_then_else_, _=?_}
 use Rattle.sound.specs.Sound.{joined}
 use Rattle.dsp.specs.Machine.{Globals, noVoice}
-use Rattle.dsp.specs.Fit.{FitAdsr, FitGlobals, FitVoice, Fit}
+use Rattle.dsp.specs.Fit.{FitAdsr, FitGlobals, FitVoice}
 use Rattle.dsp.specs.Envelope.{isOff}
 use Rattle.dsp.specs.Voice.{Sounding, PitchSource, decodedAt}
 use Rattle.dsp.specs.Mix.{scaledOutput, masterOf}
-use Rattle.dsp.specs.Lane.{Shared, sourceOf, Sums, added, turned}
+use Rattle.dsp.specs.Lane.{Shared, sourceOf, Sums, added}
 use Rattle.dsp.specs.Echo.{EchoLane, echoLane}
 use Rattle.dsp.specs.Tick.{globalsTick, frameOf}
 use Rattle.dsp.specs.Ticks.{Bench, ticksOf}
@@ -43,7 +43,7 @@ use Rattle.dsp.proofs.Lanes.{fits}
 use Rattle.dsp.proofs.Moves.{polled-keeps, played-keeps, waited-keeps}
 use Rattle.dsp.proofs.Plays.{Low, low}
 use Rattle.dsp.proofs.Envelopes.{fit-kept-envelope}
-use Rattle.dsp.proofs.Turning.{sampleNow, settled-sized, lane-worked, polledAt, waitAt, Stands, Waited, skips, idles, sounds, in-its-block, past-its-block, Moment, moment, Polled, not-polled, is-polled}
+use Rattle.dsp.proofs.Turning.{sampleNow, lane-worked, polledAt, waitAt, Stands, Waited, skips, idles, sounds, in-its-block, past-its-block, Moment, moment, Polled, not-polled, is-polled}
 use Rattle.dsp.proofs.tick.Moving.drive.Statement.{statement}
 use Rattle.dsp.proofs.tick.Moving.drive.Tie as tie
 
