@@ -275,7 +275,7 @@ mod tests {
             }
             assert_eq!(given, log.rust.unwrap_or(log.reads), "{}", log.name);
         }
-        let wanted = ["endx-write", "endx-one-of-two", "endx-again"];
+        let wanted = ["endx-write", "endx-one-of-two", "endx-looped"];
         assert_eq!(differ, wanted.map(|name| format!("differs-11-{name}")));
     }
 
