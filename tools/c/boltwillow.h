@@ -40,7 +40,8 @@ uint8_t bw_measure(const uint8_t *log, uint64_t log_size);
 uint32_t bw_ticks(const uint8_t *log, uint64_t log_size);
 uint32_t bw_readings(const uint8_t *log, uint64_t log_size);
 
-/* Runs a log from power-on: writes RAM (the echo's part of it), PCM, sheet and readings. Refuses 1, 3 to 9, 10, in this order. */
+/* Runs a log from power-on: writes RAM (the echo's part of it), PCM, sheet and readings. A log's write to $7C, whatever its value, leaves
+   0 there, in every function that plays logs. Refuses 1, 3 to 9, 10, in this order. */
 uint8_t bw_run(uint8_t *ram, uint64_t ram_size, const uint8_t *log, uint64_t log_size, uint8_t *pcm, uint64_t pcm_size, uint8_t *sheet,
                uint64_t sheet_size, uint8_t *readings, uint64_t readings_size);
 

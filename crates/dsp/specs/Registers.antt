@@ -79,9 +79,9 @@ globalsAfter i x g =
 
 -- ---- any register
 
--- a write to $7C stores its byte
+-- any write to $7C leaves 0, whatever the value (document 02, W-202)
 abbrev pub endxWrite : ℕ → ℕ
-endxWrite x = x
+endxWrite x = 0
 
 abbrev pub bytesAfter : ℕ → ℕ → List ℕ → List ℕ
 bytesAfter i x bytes =

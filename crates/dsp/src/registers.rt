@@ -7,7 +7,7 @@ ghost use Rattle.dsp.specs.PowerOn.{newDsp};
 ghost use Rattle.dsp.specs.Machine.{globalsOf};
 ghost use Rattle.dsp.specs.Fit.{globalsRule, meets, fit};
 ghost use Rattle.dsp.specs.Keys.{silenced};
-ghost use Rattle.dsp.specs.Registers.{globalsAfter, writeAt, Written, writeOf};
+ghost use Rattle.dsp.specs.Registers.{at, globalsAfter, endxWrite, writeAt, Written, writeOf};
 ghost use Rattle.dsp.specs.Inside.{asGlobals, withGlobals};
 use crate::noise::Noise;
 use crate::voice::Voice;
@@ -248,7 +248,7 @@ impl Dsp {
         ensures { λ r. ⌜ r ≡ writeAt idx value self ⌝ }
     {
         let at = idx as usize;
-        self.registers[at] = value;
+        self.registers[at] = byte_left(idx, value);
         let off = idx % 16;
         let v = (idx / 16) as usize;
         if off < 8 {
@@ -288,6 +288,13 @@ impl Dsp {
             }
         }
     }
+}
+
+// What a write leaves in a register: any write to $7C leaves 0 (document 02, W-202).
+pub(crate) fn byte_left(register: u8, value: u8) -> u8
+    ensures { λ r. ⌜ r ≡ at register 0x7C (endxWrite value) value ⌝ }
+{
+    if register == 0x7C { 0 } else { value }
 }
 
 pub(crate) fn silence_all(voices: [Voice; 8]) -> [Voice; 8]

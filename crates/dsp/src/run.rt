@@ -16,6 +16,7 @@ ghost use Rattle.dsp.specs.Inside.{asGlobals, cutEnvelope, hushedPlay, R
 use crate::adsr::Envelope;
 use crate::play::Play;
 use crate::registers::Dsp;
+use crate::registers::byte_left;
 use crate::tick::Far;
 use crate::tick::Moving;
 use crate::tick::RAM_SIZE;
@@ -61,13 +62,13 @@ impl Far {
     }
 }
 
-// The register's byte, and a tap of the FIR. RESET clears ENDX.
+// The register's byte, and a tap of the FIR. RESET clears ENDX, as any write to it does.
 fn put_byte(register: u8, value: u8, bytes: &mut [u8], taps: &mut [i8])
     requires { ⌜ (register < 128) × (length (now bytes) ≡ 128) × (length (now taps) ≡ 8) ⌝ }
     ensures { λ _. ⌜ (now (bytes .exit) ≡ bytesAfter register value (now (bytes .entry))) × (now (taps .exit) ≡ tapsAfter register value (now (taps .entry))) ⌝ }
 {
     let at = register as usize;
-    bytes[at] = value;
+    bytes[at] = byte_left(register, value);
     if register % 16 == 15 {
         let v = (register / 16) as usize;
         taps[v] = numbers::signed8(value);

@@ -17,7 +17,7 @@ use Rattle.sound.specs.Sound.{to16}
 use Rattle.dsp.specs.Machine.{noVoice, Parts, apart, together}
 use Rattle.dsp.specs.PowerOn.{newVoice, newDsp}
 use Rattle.dsp.specs.Fit.{fit}
-use Rattle.dsp.specs.Registers.{at, resets, writeParts}
+use Rattle.dsp.specs.Registers.{at, resets, endxWrite, writeParts}
 use Rattle.dsp.specs.Lane.{putBytes, turned}
 use Rattle.dsp.specs.Tick.{Round, turn, voicesTick, sharedOf, startOf, tickOf}
 use Rattle.dsp.specs.Ticks.{Bench, benchTick}
@@ -69,7 +69,7 @@ endx-write i x p l h =
     let P : ℕ → Type 0 = (λ v. v < 256) in
     chosen (λ (b : List ℕ). getD b 0x7C 0 < 256) (resets i x)
     (set-keeps P 0 (set (p .registers) i x) 0x7C 0 (omega arith) 0x7C (set-keeps P 0 (p .registers) i x l 0x7C h))
-    (set-keeps P 0 (p .registers) i (at i 0x7C x x) (chosen P (i =? 0x7C) l l) 0x7C h)
+    (set-keeps P 0 (p .registers) i (at i 0x7C (endxWrite x) x) (chosen P (i =? 0x7C) (omega arith) l) 0x7C h)
 
 pub whole-tick : (w : Work) (old : List ℕ) (p : Parts) (ram : List ℕ) → Whole p ram → Whole (tickOf w old p ram .parts) (tickOf w old p ram .ram)
 unfolding benchTick

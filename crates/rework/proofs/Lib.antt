@@ -25,3 +25,4 @@ pub mod Demand1
 pub mod EveryCall
 pub mod Shows
 pub mod Polls
+pub mod Acknowledging

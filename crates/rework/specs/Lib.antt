@@ -7,4 +7,5 @@ pub mod Demands
 pub mod KeptFit
 pub mod Shown
 pub mod Order
+pub mod Acknowledged
 pub mod NotThrough

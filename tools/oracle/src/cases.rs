@@ -90,6 +90,25 @@ pub fn ram_path(folder: &str, image: u8) -> String {
     format!("{folder}/ram{image}")
 }
 
+/// A case that plays logs.
+pub trait Logs {
+    fn all_logs(&self) -> Vec<&[u8]>;
+}
+
+impl Logs for Case {
+    fn all_logs(&self) -> Vec<&[u8]> {
+        vec![&self.log]
+    }
+}
+
+impl Logs for Pair {
+    /// In the order in which they are stored.
+    fn all_logs(&self) -> Vec<&[u8]> {
+        let before = self.preludes.iter().chain(&self.logs);
+        before.chain([&self.tail]).map(Vec::as_slice).collect()
+    }
+}
+
 /// A case as it stands in a file.
 pub trait Stored: Sized {
     fn bytes(&self) -> Vec<u8>;
@@ -113,7 +132,7 @@ impl Stored for Case {
 impl Stored for Pair {
     fn bytes(&self) -> Vec<u8> {
         let mut all = vec![self.ram, self.named, self.lent, self.unfit];
-        for log in self.preludes.iter().chain(&self.logs).chain([&self.tail]) {
+        for log in self.all_logs() {
             all.extend(log_bytes(log));
         }
         all

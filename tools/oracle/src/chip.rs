@@ -5,6 +5,7 @@ use apu::memory::RawARAM;
 
 use crate::bytes::{digest, Bytes, Digest};
 use crate::log::{self, Record, Refusal};
+use crate::registers::ENDX;
 use crate::sheet;
 
 /// Left and right, 16 bits each.
@@ -61,6 +62,35 @@ pub fn play(
     dsp: &mut Dsp,
     ram: &mut RawARAM,
     records: &[Record],
+    after: impl FnMut(&Dsp, &RawARAM, &[u8]),
+) -> Played {
+    play_by(handed, dsp, ram, records, after)
+}
+
+/// Plays the records on the Rust as it is: a write to `$7C` stores its byte.
+pub fn play_as_it_is(dsp: &mut Dsp, ram: &mut RawARAM, records: &[Record]) -> Played {
+    play_by(|_, value| value, dsp, ram, records, |_, _, _| {})
+}
+
+/// The value that the Rust is handed for a log's write. "Any write to `$7C`
+/// leaves 0" (document 02, W-202). The Rust stores its byte there, and stores
+/// a 0 as well: that is what it is handed in the place of the log's value.
+fn handed(register: u8, value: u8) -> u8 {
+    if register == ENDX {
+        0
+    } else {
+        value
+    }
+}
+
+/// The value that the chip gets, from a write's register and value.
+type Rule = fn(u8, u8) -> u8;
+
+fn play_by(
+    rule: Rule,
+    dsp: &mut Dsp,
+    ram: &mut RawARAM,
+    records: &[Record],
     mut after: impl FnMut(&Dsp, &RawARAM, &[u8]),
 ) -> Played {
     let mut readings = Vec::new();
@@ -69,7 +99,9 @@ pub fn play(
     let mut sheet = Bytes::new();
     for record in records {
         match *record {
-            Record::Write { register, value } => dsp.write_reg(index(register, value), value),
+            Record::Write { register, value } => {
+                dsp.write_reg(index(register, value), rule(register, value))
+            }
             Record::Reading(register) => readings.push((register, dsp.read_reg(register))),
             Record::Ticks(count) => {
                 ticks += usize::from(count);
@@ -159,18 +191,65 @@ mod tests {
         assert_eq!(text.lines().count(), 6);
     }
 
+    /// Source 0 is an end block at $0004: a voice keyed on sets its ENDX bit
+    /// on the sixth tick from its poll on.
+    fn end_ram() -> Vec<u8> {
+        let mut ram = zero_ram();
+        ram[..5].copy_from_slice(&[0x04, 0x00, 0x04, 0x00, 0x01]);
+        ram
+    }
+
     /// One row for each tick, over all `TK` records, as things stand after it.
     #[test]
     fn the_sheet_has_36_bytes_a_tick() {
-        let log = b"RW\x7C\x01TK\x02\x00RW\x7C\x80TK\x01\x00ND";
-        let outcome = run(log, zero_ram()).ok().unwrap();
-        let mut wanted = [0; 3 * 36];
-        wanted[3] = 1;
-        wanted[36 + 3] = 1;
-        wanted[72 + 31] = 1;
+        let log = b"RW\x6C\x20RW\x4C\x01TK\x08\x00RW\x7C\x80RW\x4C\x80TK\x06\x00ND";
+        let outcome = run(log, end_ram()).ok().unwrap();
+        let mut wanted = [0; 14 * 36];
+        for row in 5..8 {
+            wanted[36 * row + 3] = 1;
+        }
+        wanted[36 * 13 + 31] = 1;
         assert_eq!(outcome.played.sheet, wanted);
         let line = format!("\nSHEET {:016X}\n", digest(&wanted));
         assert!(report(&Ok(outcome)).ends_with(&line));
+    }
+
+    fn write(register: u8, value: u8) -> Record {
+        Record::Write { register, value }
+    }
+
+    /// A chip on which all eight voices have come to their end block.
+    fn ended() -> Dsp {
+        let mut dsp = Dsp::new();
+        let records = [write(FLG, 0x20), write(KON, 0xFF), Record::Ticks(6)];
+        let mut ram = ram_of(end_ram()).unwrap();
+        play(&mut dsp, &mut ram, &records, |_, _, _| {});
+        assert_eq!(dsp.read_reg(ENDX), 0xFF);
+        dsp
+    }
+
+    /// W-202: "any write to `$7C` leaves 0", and no other register changes.
+    /// On the Rust as it is the byte is stored.
+    #[test]
+    fn a_write_to_endx_leaves_0() {
+        for value in [0x00, 0x01, 0x80, 0xA5, 0xFE, 0xFF] {
+            let records = [write(ENDX, value)];
+            let ram = &mut ram_of(end_ram()).unwrap();
+            let mut wanted = registers(&ended());
+            wanted[usize::from(ENDX)] = 0;
+            let given = play(&mut ended(), ram, &records, |_, _, _| {});
+            assert_eq!(given.registers, wanted, "{value:02X}");
+            wanted[usize::from(ENDX)] = value;
+            let given = play_as_it_is(&mut ended(), ram, &records);
+            assert_eq!(given.registers, wanted, "{value:02X} as it is");
+        }
+    }
+
+    #[test]
+    fn other_registers_take_the_value_written() {
+        for register in (0..0x80).filter(|register| *register != ENDX) {
+            assert_eq!(handed(register, 0xA5), 0xA5, "{register:02X}");
+        }
     }
 
     #[test]

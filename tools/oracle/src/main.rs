@@ -1,6 +1,6 @@
 //! The oracle: what every register, RAM byte and sample must be, by the
-//! given Rust, and what a sound file must be, by W-201. This file is the
-//! command line; README.md lists the commands.
+//! given Rust and, for a write to `$7C`, by W-202, and what a sound file must
+//! be, by W-201. This file is the command line; README.md lists the commands.
 
 use std::fs;
 use std::io::{self, Write};
@@ -9,6 +9,7 @@ use std::process::ExitCode;
 mod bytes;
 mod cases;
 mod chip;
+mod endx;
 mod leaves;
 mod log;
 mod make;
@@ -26,6 +27,7 @@ const USAGE: &str = "usage: oracle nibble | block | interpolate | envelope | noi
     | differs | differs shorter NAME | run LOG RAM [PCM_OUT [RAM_OUT]] | make KIND SEED LOG_OUT RAM_OUT \
     | trace CASES FOLDER | cases KIND COUNT SEED OUTFOLDER \
     | rework PAIRS FOLDER | pairs KIND COUNT SEED OUTFOLDER \
+    | endx cases CASES | endx pairs PAIRS \
     | wavs REELS FOLDER | reels KIND COUNT SEED OUTFOLDER";
 
 fn main() -> ExitCode {
@@ -65,6 +67,8 @@ fn command(words: &[&str]) -> Result<(), String> {
             let (count, seed) = (number(count)?, number(seed)?);
             store(&make::pairs::pairs(kind, count as usize, seed)?, folder)
         }
+        ["endx", "cases", file] => endx::<cases::Case>(file),
+        ["endx", "pairs", file] => endx::<cases::Pair>(file),
         // No sound file has a RAM image to look for in the folder.
         ["wavs", reels, _] => wavs(reels),
         ["reels", kind, count, seed, folder] => {
@@ -99,6 +103,11 @@ fn rework(pairs: &str, folder: &str) -> Result<(), String> {
     let pairs = cases::read(&read(pairs)?)?;
     let text = rework::report(&pairs, |image| read_ram(&cases::ram_path(folder, image)))?;
     print(text.as_bytes())
+}
+
+fn endx<C: cases::Stored + cases::Logs>(file: &str) -> Result<(), String> {
+    let cases: Vec<C> = cases::read(&read(file)?)?;
+    print(endx::report(&cases).as_bytes())
 }
 
 fn wavs(reels: &str) -> Result<(), String> {

@@ -1,19 +1,23 @@
 //! docs/DIFFERENCES.md as the logs that stand on it. A row of a table is a
 //! log where its first cell is the name of a case; then come the log, its
-//! RAM image, what it reads and, where the table is that of the public
-//! rules, what it would read by them. A row whose first cell is `ramN` gives
-//! an image.
+//! RAM image and what it reads. Where the table is that of the public rules,
+//! a further column says what it would read by them; where it is that of a
+//! rule that the Rust does not have, what the Rust reads. A row whose first
+//! cell is `ramN` gives an image.
 
 use std::panic::{self, AssertUnwindSafe};
 
 use apu::dsp::Dsp;
+use apu::memory::RawARAM;
 
-use crate::chip;
+use crate::chip::{self, Played};
 use crate::log::Record;
 
 /// The page as it stood when the oracle was built.
 pub const PAGE: &str = include_str!("../../../docs/DIFFERENCES.md");
 const NAME: &str = "differs-";
+const PUBLIC: &str = "under the public rule";
+const RUST: &str = "the Rust reads";
 const RAM_SIZE: usize = 65_536;
 
 pub struct Log<'a> {
@@ -25,38 +29,66 @@ pub struct Log<'a> {
     /// What it would read by the public rule: nothing where the page names
     /// no reading, more than one where the rule leaves it open.
     pub public: Vec<Vec<u8>>,
+    /// What the Rust as it is reads, where the page has a cell for that.
+    pub rust: Option<Vec<u8>>,
 }
 
 pub fn logs(page: &str) -> Vec<Log<'_>> {
-    let is_log = |row: &Vec<&str>| code(row[0]).starts_with(NAME);
+    let is_log = |row: &Row| code(row.cells[0]).starts_with(NAME);
     rows(page).filter(is_log).map(log).collect()
 }
 
 /// With their numbers.
 pub fn images(page: &str) -> Vec<(u8, Vec<u8>)> {
-    let is_image = |row: &Vec<&str>| row[0].starts_with("`ram");
-    let image = |row: Vec<&str>| (number(row[0]), ram(code(row[1])));
+    let is_image = |row: &Row| row.cells[0].starts_with("`ram");
+    let image = |row: Row| (number(row.cells[0]), ram(code(row.cells[1])));
     rows(page).filter(is_image).map(image).collect()
 }
 
-/// The cells of the rows of all tables.
-fn rows(page: &str) -> impl Iterator<Item = Vec<&str>> {
-    page.lines().filter_map(|line| {
-        let cells = line.strip_prefix('|')?.strip_suffix('|')?;
-        Some(cells.split('|').map(str::trim).collect())
+/// A row of a table below its heading.
+struct Row<'a> {
+    heading: Vec<&'a str>,
+    cells: Vec<&'a str>,
+}
+
+impl<'a> Row<'a> {
+    /// The cell below this word of the heading, if there is one.
+    fn below(&self, word: &str) -> Option<&'a str> {
+        let column = self.heading.iter().position(|title| *title == word)?;
+        self.cells.get(column).copied()
+    }
+}
+
+/// The rows of all tables. The first line of a table is its heading.
+fn rows(page: &str) -> impl Iterator<Item = Row<'_>> {
+    let mut heading = None;
+    page.lines().filter_map(move |line| {
+        let Some(cells) = cells(line) else {
+            heading = None;
+            return None;
+        };
+        let heading = heading.get_or_insert(cells.clone()).clone();
+        Some(Row { heading, cells })
     })
 }
 
-fn log(row: Vec<&str>) -> Log<'_> {
-    let &[name, records, image, reads, said, ..] = &row[..] else {
-        panic!("{} has too few cells", row[0]);
+fn cells(line: &str) -> Option<Vec<&str>> {
+    let inner = line.strip_prefix('|')?.strip_suffix('|')?;
+    Some(inner.split('|').map(str::trim).collect())
+}
+
+fn log(row: Row<'_>) -> Log<'_> {
+    let &[name, records, image, reads, ..] = &row.cells[..] else {
+        panic!("{} has too few cells", row.cells[0]);
     };
     let reads = bytes(code(reads));
+    let public = |said| public(said, reads.len());
     Log {
         name: code(name),
         image: number(image),
         records: code(records).split(", ").map(record).collect(),
-        public: public(said, reads.len()),
+        public: row.below(PUBLIC).map_or(Vec::new(), public),
+        rust: row.below(RUST).map(|cell| bytes(code(cell))),
         reads,
     }
 }
@@ -124,17 +156,23 @@ fn public(cell: &str, count: usize) -> Vec<Vec<u8>> {
 }
 
 impl Log<'_> {
-    /// What it reads on the chip that the oracle was built with.
-    pub fn readings(&self, page: &str) -> Vec<u8> {
-        self.with(&self.records, page)
+    /// What these records read on its image, by the chip that the oracle was
+    /// built with.
+    fn with(&self, records: &[Record], page: &str) -> Vec<u8> {
+        let mut ram = self.ram(page);
+        values(chip::play(&mut Dsp::new(), &mut ram, records, |_, _, _| {}))
     }
 
-    fn with(&self, records: &[Record], page: &str) -> Vec<u8> {
+    /// The same with that chip as it is: a write to ENDX stores its byte.
+    fn as_it_is(&self, records: &[Record], page: &str) -> Vec<u8> {
+        let mut ram = self.ram(page);
+        values(chip::play_as_it_is(&mut Dsp::new(), &mut ram, records))
+    }
+
+    fn ram(&self, page: &str) -> Box<RawARAM> {
         let images = images(page);
         let (_, ram) = images.into_iter().find(|(n, _)| *n == self.image).unwrap();
-        let mut ram = chip::ram_of(ram).unwrap();
-        let played = chip::play(&mut Dsp::new(), &mut ram, records, |_, _, _| {});
-        played.readings.iter().map(|(_, value)| *value).collect()
+        chip::ram_of(ram).unwrap()
     }
 
     /// The log less a write or a count, or with a count lowered; with words
@@ -161,14 +199,25 @@ impl Log<'_> {
     }
 }
 
+fn values(played: Played) -> Vec<u8> {
+    played.readings.iter().map(|(_, value)| *value).collect()
+}
+
 /// For each log its name, what it reads, what the page says that it reads
-/// and, by the public rule, would read.
+/// and, by the public rule, would read; then what it reads on the chip as it
+/// is, and what the page says of that.
 pub fn report(page: &str) -> String {
     let line = |log: &Log| {
-        let said: Vec<_> = log.public.iter().map(|bytes| text(bytes)).collect();
-        let said = said.join("/");
-        let (given, wanted) = (given(|| log.readings(page)), text(&log.reads));
-        format!("{}:{given}:{wanted}:{said}\n", log.name)
+        let public: Vec<_> = log.public.iter().map(|bytes| text(bytes)).collect();
+        let parts = [
+            log.name.to_string(),
+            given(|| log.with(&log.records, page)),
+            text(&log.reads),
+            public.join("/"),
+            given(|| log.as_it_is(&log.records, page)),
+            log.rust.as_deref().map_or(String::new(), text),
+        ];
+        parts.join(":") + "\n"
     };
     logs(page).iter().map(line).collect()
 }
@@ -209,7 +258,37 @@ mod tests {
         let logs = logs(PAGE);
         assert!(!logs.is_empty());
         for log in logs {
-            assert_eq!(log.readings(PAGE), log.reads, "{}", log.name);
+            let given = log.with(&log.records, PAGE);
+            assert_eq!(given, log.reads, "{}", log.name);
+        }
+    }
+
+    /// "The Rust reads": other bytes than we do in the logs of W-202, and in
+    /// no other log of the page.
+    #[test]
+    fn the_page_says_what_the_rust_reads() {
+        let mut differ = Vec::new();
+        for log in logs(PAGE) {
+            let given = log.as_it_is(&log.records, PAGE);
+            if given != log.reads {
+                differ.push(log.name);
+            }
+            assert_eq!(given, log.rust.unwrap_or(log.reads), "{}", log.name);
+        }
+        let wanted = ["endx-write", "endx-one-of-two", "endx-looped"];
+        assert_eq!(differ, wanted.map(|name| format!("differs-11-{name}")));
+    }
+
+    /// Those logs read something else, here or on the Rust, without any of
+    /// their writes or counts and with any lower count.
+    #[test]
+    fn no_log_of_two_readings_can_be_shorter() {
+        for log in logs(PAGE) {
+            let Some(rust) = &log.rust else { continue };
+            for (words, records) in log.shorter() {
+                let both = [log.with(&records, PAGE), log.as_it_is(&records, PAGE)];
+                assert_ne!(both.each_ref(), [&log.reads, rust], "{words}");
+            }
         }
     }
 
@@ -232,7 +311,7 @@ mod tests {
         }
         let (from_the_rust, others): (Vec<_>, Vec<_>) = logs
             .iter()
-            .partition(|log| log.name.starts_with("differs-00-"));
+            .partition(|log| log.name.starts_with("differs-00-") || log.rust.is_some());
         assert!(from_the_rust.iter().all(|log| log.public.is_empty()));
         let unsaid = others.iter().filter(|log| log.public.is_empty());
         let names: Vec<_> = unsaid.map(|log| log.name).collect();
@@ -263,12 +342,14 @@ mod tests {
 
     #[test]
     fn rows_of_a_page() {
-        let page = "text\n| `ram1` | `0010: 0A FF; FFFF: 01` |\n| `ram2` | |\n\
-            | case | log |\n|---|---|\n\
-            | `differs-a` | `RW 7C 01, TK 12, QA 7C` | `ram1` | `01` | `00`: so |\n\
+        let page = "text\n| image |\n| `ram1` | `0010: 0A FF; FFFF: 01` |\n| `ram2` | |\n\
+            text\n| case | log | RAM | reads | under the public rule |\n|---|---|\n\
+            | `differs-a` | `RW 2C 01, TK 12, QA 2C` | `ram1` | `01` | `00`: so |\n\
             | `differs-b` | `TK 1` | `ram2` | | not `01 02` |\n\
             | `differs-d` | `QA 6C, QA 00` | `ram2` | `E0 00` | not `01 02` or `$03`, `03 04` |\n\
-            | differs-c | none |\n";
+            | differs-c | none |\n\n\
+            | case | log | RAM | reads | the Rust reads | because |\n\
+            | `differs-e` | `RW 7C 01, QA 7C` | `ram2` | `00` | `01` | `7C` |\n";
         let images = images(page);
         let numbers: Vec<_> = images.iter().map(|(number, _)| *number).collect();
         assert_eq!(numbers, [1, 2]);
@@ -277,24 +358,30 @@ mod tests {
         assert_eq!(images[1].1, vec![0; RAM_SIZE]);
         let logs = logs(page);
         let names: Vec<_> = logs.iter().map(|log| (log.name, log.image)).collect();
-        assert_eq!(
-            names,
-            [("differs-a", 1), ("differs-b", 2), ("differs-d", 2)]
-        );
+        let wanted = [
+            ("differs-a", 1),
+            ("differs-b", 2),
+            ("differs-d", 2),
+            ("differs-e", 2),
+        ];
+        assert_eq!(names, wanted);
         assert_eq!(logs[0].records.len(), 3);
         assert_eq!(logs[0].records[1], Record::Ticks(12));
         assert_eq!(
             (&logs[0].reads[..], &logs[1].reads[..]),
             (&[1][..], &[][..])
         );
-        let lines = "differs-a:01:01:00\ndiffers-b:::\ndiffers-d:E0 00:E0 00:01 02/03 04\n";
+        let said: Vec<_> = logs.iter().map(|log| log.rust.as_deref()).collect();
+        assert_eq!(said, [None, None, None, Some(&[1][..])]);
+        let lines = "differs-a:01:01:00:01:\ndiffers-b:::::\n\
+            differs-d:E0 00:E0 00:01 02/03 04:E0 00:\ndiffers-e:00:00::01:01\n";
         assert_eq!(report(page), lines);
     }
 
     /// A write, a count, and eleven lower counts.
     #[test]
     fn shorter_logs() {
-        let page = "| `ram1` | |\n| `differs-a` | `RW 7C 01, TK 12, QA 7C` | `ram1` | `01` | |\n";
+        let page = "| `ram1` | |\n| `differs-a` | `RW 2C 01, TK 12, QA 2C` | `ram1` | `01` | |\n";
         let text = report_shorter(page, "differs-a");
         assert_eq!(report_shorter(page, "differs-b"), "");
         assert_eq!(text.lines().count(), 13);

@@ -82,7 +82,8 @@ fn with_random(
     for _ in 0..count {
         let image = random.below(images);
         let ticks = random.between(TICKS_LEAST, TICKS_MOST);
-        let records = plain::records(random, banks[image].dir, ticks);
+        let setting = plain::Setting::new(random, banks[image].dir);
+        let records = plain::records(random, setting, ticks);
         cases.push(Case {
             ram: (rams.len() + image) as u8,
             log: bytes_of(random, records),

@@ -1,6 +1,7 @@
 //! Cases by name, at least one for each rule of document 01 under voice.rs
-//! and mod.rs, and for each refusal that a run from `new` can meet; then the
-//! logs of docs/DIFFERENCES.md. The tables cite the rule above each row.
+//! and mod.rs, for W-202 of document 02, and for each refusal that a run from
+//! `new` can meet; then the logs of docs/DIFFERENCES.md. The tables cite the
+//! rule above each row.
 
 mod differs;
 mod echo;

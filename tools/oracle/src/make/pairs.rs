@@ -4,7 +4,8 @@ mod directed;
 
 use super::bank::{self, Bank};
 use super::cases::Made;
-use super::{damage, encode, plain};
+use super::plain::{self, Setting};
+use super::{damage, encode};
 use crate::cases::{lent, Pair, CASES_MOST};
 use crate::log::Record;
 use crate::random::Random;
@@ -105,10 +106,10 @@ fn one(random: &mut Random, banks: &[Bank], some_wrong: bool) -> Pair {
         Wrong::Nothing
     };
     let image = random.below(banks.len());
-    let dir = banks[image].dir;
+    let setting = Setting::new(random, banks[image].dir);
     let named = named_voices(random);
-    let prelude = prelude(random, dir, named);
-    let log = log(random, dir, named, prelude.len() == 1, wrong);
+    let prelude = prelude(random, setting, named);
+    let log = log(random, setting, named, prelude.len() == 1, wrong);
 
     let preludes = two(random, prelude, named, 3);
     let [old, mut new] = two(random, log, named, 8);
@@ -116,7 +117,7 @@ fn one(random: &mut Random, banks: &[Bank], some_wrong: bool) -> Pair {
         changed_outside(random, &mut new);
     }
     let tail_ticks = random.between(1, TAIL_MOST);
-    let tail = plain::more(random, dir, tail_ticks);
+    let tail = plain::more(random, setting, tail_ticks);
     let damaged_if = |random: &mut Random, so, records: Vec<Record>| {
         if so {
             damage::damage(random, records)
@@ -160,12 +161,12 @@ fn named_voices(random: &mut Random) -> u8 {
 /// From power-on. Whatever is set there ties no other voice to the named
 /// ones, and no tick writes to the echo: the start records differ only in
 /// the named voices' own parts. One in four has only its end record.
-fn prelude(random: &mut Random, dir: u8, named: u8) -> Vec<Record> {
+fn prelude(random: &mut Random, setting: Setting, named: u8) -> Vec<Record> {
     if random.once_in(4) {
         return vec![Record::End];
     }
     let ticks = random.between(1, PRELUDE_MOST);
-    let mut records = plain::records(random, dir, ticks);
+    let mut records = plain::records(random, setting, ticks);
     for record in &mut records {
         echo_off(record);
         masked(record, PMON, untied(named));
@@ -202,12 +203,18 @@ fn echo_off(record: &mut Record) {
 }
 
 /// Without modulation that ties a voice, with what comes, or with much.
-fn log(random: &mut Random, dir: u8, named: u8, from_new: bool, wrong: Wrong) -> Vec<Record> {
+fn log(
+    random: &mut Random,
+    setting: Setting,
+    named: u8,
+    from_new: bool,
+    wrong: Wrong,
+) -> Vec<Record> {
     let ticks = random.between(TICKS_LEAST, TICKS_MOST);
     let mut records = if from_new || random.once_in(4) {
-        plain::records(random, dir, ticks)
+        plain::records(random, setting, ticks)
     } else {
-        plain::more(random, dir, ticks)
+        plain::more(random, setting, ticks)
     };
     records.iter_mut().for_each(echo_off);
     // The prelude may have left anything. Mostly the named voices sound.

@@ -10,27 +10,50 @@ use crate::registers::*;
 /// stays under 60,000 bytes.
 const RECORDS_USUAL: usize = 12_000;
 
+/// One log in so many is to have no write to `$7C`; a few others have none
+/// by chance.
+const ONE_WITHOUT_ENDX_IN: usize = 3;
+
+/// What a log goes by, and all logs of a pair.
+#[derive(Clone, Copy)]
+pub struct Setting {
+    /// The value for DIR.
+    dir: u8,
+    /// Whether it may write `$7C`. W-202: "demand 2 compares with the Rust on
+    /// logs without a `$7C` write; the rest is held to the document". So both
+    /// kinds are wanted.
+    acknowledges: bool,
+}
+
+impl Setting {
+    pub fn new(random: &mut Random, dir: u8) -> Self {
+        let acknowledges = !random.once_in(ONE_WITHOUT_ENDX_IN);
+        Setting { dir, acknowledges }
+    }
+}
+
 /// A log of exactly this many ticks, with its end record, and its RAM.
 pub fn plain(random: &mut Random, ticks: usize) -> (Vec<Record>, Vec<u8>) {
     let bank = bank::bank(random);
-    (records(random, bank.dir, ticks), bank.ram)
+    let setting = Setting::new(random, bank.dir);
+    (records(random, setting, ticks), bank.ram)
 }
 
 /// The same for a RAM image that is there already.
-pub fn records(random: &mut Random, dir: u8, ticks: usize) -> Vec<Record> {
-    let mut log = Plain::new(random, dir, ticks);
+pub fn records(random: &mut Random, setting: Setting, ticks: usize) -> Vec<Record> {
+    let mut log = Plain::new(random, setting, ticks);
     log.start();
     log.ended()
 }
 
 /// The same for a chip that is set up already.
-pub fn more(random: &mut Random, dir: u8, ticks: usize) -> Vec<Record> {
-    Plain::new(random, dir, ticks).ended()
+pub fn more(random: &mut Random, setting: Setting, ticks: usize) -> Vec<Record> {
+    Plain::new(random, setting, ticks).ended()
 }
 
 pub struct Plain<'a> {
     pub random: &'a mut Random,
-    dir: u8,
+    setting: Setting,
     /// Volumes and taps are often at their ends, where sums clamp.
     loud: bool,
     /// Ticks to go.
@@ -39,11 +62,11 @@ pub struct Plain<'a> {
 }
 
 impl<'a> Plain<'a> {
-    fn new(random: &'a mut Random, dir: u8, ticks: usize) -> Self {
+    fn new(random: &'a mut Random, setting: Setting, ticks: usize) -> Self {
         let loud = random.once_in(2);
         Plain {
             random,
-            dir,
+            setting,
             loud,
             left: ticks,
             records: Vec::new(),
@@ -63,8 +86,11 @@ impl<'a> Plain<'a> {
         self.records
     }
 
+    /// A write, but for one to `$7C` in a log that is to have none.
     pub fn set(&mut self, register: u8, value: u8) {
-        self.records.push(Record::Write { register, value });
+        if register != ENDX || self.setting.acknowledges {
+            self.records.push(Record::Write { register, value });
+        }
     }
 
     pub fn read(&mut self, register: u8) {
@@ -91,7 +117,7 @@ impl<'a> Plain<'a> {
 
     fn start(&mut self) {
         self.set(FLG, 0x20);
-        self.set(DIR, self.dir);
+        self.set(DIR, self.setting.dir);
         for register in [MVOL_LEFT, MVOL_RIGHT, EVOL_LEFT, EVOL_RIGHT, EFB] {
             self.set_volume(register);
         }
@@ -108,7 +134,7 @@ impl<'a> Plain<'a> {
     }
 
     fn action(&mut self) {
-        match self.random.below(20) {
+        match self.random.below(22) {
             0..=2 => {
                 let (voice, offset) = (self.voice(), self.random.below(8) as u8);
                 self.voice_write(voice, offset);
@@ -123,6 +149,7 @@ impl<'a> Plain<'a> {
             11 | 12 => self.mix_write(),
             13 => self.any_write(),
             14 => self.scene(),
+            15 | 16 => self.acknowledge(),
             _ => self.reading(),
         }
     }
@@ -206,7 +233,18 @@ impl<'a> Plain<'a> {
             self.set_any(register);
         }
         if register == DIR && self.random.once_in(2) {
-            self.set(DIR, self.dir);
+            self.set(DIR, self.setting.dir);
+        }
+    }
+
+    /// "Any write to `$7C` leaves 0" (W-202): any value, often one that a
+    /// program would take for it.
+    fn acknowledge(&mut self) {
+        let any = self.random.byte();
+        let value = self.random.pick(&[any, any, 0x00, 0xFF]);
+        self.set(ENDX, value);
+        if self.random.once_in(2) {
+            self.read(ENDX);
         }
     }
 

@@ -1,7 +1,7 @@
 -- The record is taken apart into arrays that stand for it (Made); each record of the log moves them on (Logs); where the log ends they are made
 -- into a record again.
 use borrow.Author.Needs.{needs}
-use mathlib.Core.Bool.{Bool, _&&_}
+use mathlib.Core.Bool.{_&&_}
 use mathlib.Core.List.{List, []}
 use mathlib.Core.Path.{_≡_, refl, sym, ap, subst, _∙_}
 use Prim.Native.Nat.{ℕ, _+_, _-_, _*_, _/_, _≤_, _<_}
@@ -9,7 +9,6 @@ use native.Mathlib.Omega.{arith}
 use lib.ListN.{length, set, length-map}
 use borrow.Rule.Slice.PartMut.{mid-len}
 use Rattle.numbers.specs.Choice.{if_then_else_, _=?_, _≤?_}
-use Rattle.numbers.proofs.Bits.{top-bit}
 use Rattle.dsp.specs.Machine.{Parts, apart, together}
 use Rattle.dsp.specs.Registers.{resets}
 use Rattle.dsp.specs.Play.{starting}
@@ -20,6 +19,7 @@ use Rattle.dsp.specs.declared.voice.Voice.{Voice}
 use Rattle.dsp.proofs.Apart.{Arrays, arrays, Sized, partsFrom}
 use Rattle.dsp.proofs.Made.{histories, dials-wound, voices-again}
 use Rattle.dsp.proofs.Ticks.{BenchFit, bench-fit}
+use Rattle.dsp.proofs.Writes.{reset-tested}
 use Rattle.dsp.proofs.Logs.{Playing, standing, benchNow, Between, started, room, finished, hushedArrays, on-write, on-ticks, on-reading}
 use Rattle.log.specs.Log.{Known}
 use Rattle.log.specs.Measure.{ticksIn, readingsIn}
@@ -192,9 +192,8 @@ write-requires c κs =
 value-small : (c : tie.After-known-told2 Inv-loop μ-loop) → c .before .found2 .given .0 .1 .0 < 256
 value-small c = search needs
 
--- RESET, as the code tests it
 reset-is : (c : tie.After-known-told2 Inv-loop μ-loop) → resets (c .before .found2 .given .0 .0) (c .before .found2 .given .0 .1 .0) ≡ ((c .before .found2 .given .0 .0 =? 0x6C) && (0x80 ≤? c .before .found2 .given .0 .1 .0))
-reset-is c = ap (λ (t : Bool). (c .before .found2 .given .0 .0 =? 0x6C) && t) (top-bit _ (value-small c))
+reset-is c = reset-tested (c .before .found2 .given .0 .0) _ (value-small c)
 
 -- a write, with the arrays that stand behind it
 write-on : (c : tie.After-write2 Inv-loop μ-loop) (b : Arrays) → Sized b → (let l = here (write-of (put-of (put (c .before)))) .loop in b ≡ (if resets (put-of (put (c .before)) .before .found2 .given .0 .0) (put-of (put (c .before)) .before .found2 .given .0 .1 .0) then hushedArrays (arrays (l .envelopes) (l .plays) (l .feeds) (l .currents) (l .store)) else arrays (l .envelopes) (l .plays) (l .feeds) (l .currents) (l .store)))

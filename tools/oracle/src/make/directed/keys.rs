@@ -128,12 +128,71 @@ pub const TABLE: &[Named] = &[
         s.set(KOFF, 0x01);
         s.ticks(12);
     }),
-    // "A write to $7C stores its byte."
+    // W-202: "any write to `$7C` leaves 0". First where no flag is set.
     ("endx-write", |s| {
         s.set(ENDX, 0xA5);
         s.read(ENDX);
         s.playing(3, HIGH, ONE);
         s.read(ENDX);
+    }),
+    // A looped sample comes to its end block again, a block later.
+    ("acknowledged-looped", |s| {
+        s.playing(2, HIGH, ONE);
+        acknowledge(s, 0x04);
+        s.ticks(14);
+        s.read(ENDX);
+        s.tick_and_read(&[ENDX]);
+    }),
+    // One that is not looped does not.
+    ("acknowledged-ended", |s| {
+        s.playing(2, ENDED, ONE);
+        acknowledge(s, 0x04);
+        s.ticks(40);
+        s.read(ENDX);
+    }),
+    // Other flags go with the one that is written.
+    ("acknowledged-all-eight", |s| {
+        for voice in 0..8 {
+            s.voice(voice, ENDED, ONE);
+        }
+        s.set(KON, 0xFF);
+        s.ticks(6);
+        acknowledge(s, 0x01);
+        s.ticks(2);
+        s.read(ENDX);
+    }),
+    // By 0, by the flag itself, by all others, by all, by any.
+    ("acknowledged-by-any-value", |s| {
+        s.playing(5, HIGH, ONE);
+        for value in [0x00, 0x20, 0xDF, 0xFF, 0x5A] {
+            acknowledge(s, value);
+            s.ticks(16);
+        }
+        s.read(ENDX);
+    }),
+    // Before each tick: the flag shows after the one that sets it, alone.
+    ("acknowledged-before-each-tick", |s| {
+        s.playing(7, HIGH, 3 * ONE);
+        for _ in 0..12 {
+            s.set(ENDX, 0xFF);
+            s.tick_and_read(&[ENDX]);
+        }
+    }),
+    ("acknowledged-twice-in-a-row", |s| {
+        s.playing(0, HIGH, ONE);
+        acknowledge(s, 0x01);
+        acknowledge(s, 0x01);
+        s.ticks(20);
+        s.read(ENDX);
+    }),
+    // Keyed on again, it comes to its end block again.
+    ("acknowledged-then-keyed-on-again", |s| {
+        s.playing(1, ENDED, ONE);
+        acknowledge(s, 0x02);
+        s.set(KON, 0x02);
+        for _ in 0..7 {
+            s.tick_and_read(&[ENDX]);
+        }
     }),
     // "Every tick leaves the scaled output's top byte in OUTX, for idle and
     // skipped voices too."
@@ -157,6 +216,13 @@ pub const TABLE: &[Named] = &[
         s.ticks(4);
     }),
 ];
+
+/// A write to ENDX, with a reading before it and after it.
+fn acknowledge(s: &mut Script, value: u8) {
+    s.read(ENDX);
+    s.set(ENDX, value);
+    s.read(ENDX);
+}
 
 fn kon_after(s: &mut Script, before: u16) {
     s.voice(0, HIGH, ONE);

@@ -1,6 +1,6 @@
 //! Pairs by name: one for each clause of document 01's paragraph on rework,
-//! and for each of its refusals in their order. A name that starts with
-//! `refused-` says the refusal; any other pair is taken.
+//! for W-202 of document 02, and for each refusal in their order. A name that
+//! starts with `refused-` says the refusal; any other pair is taken.
 
 use crate::cases::{lent, unfit, Pair};
 use crate::log::LOG_MOST;
@@ -197,11 +197,7 @@ const PLAYED: &[Named] = &[
         t.read_all();
     }),
     ("start-ended-in-one", |t| {
-        sounding(t);
-        t.change(SRCN, WAVE, ENDED);
-        t.set(KON, 0x08);
-        t.ticks(12);
-        t.begin();
+        ended_in_one(t);
         t.read_all();
         t.ticks(5);
         t.set(KON, 0x08);
@@ -355,6 +351,40 @@ const PLAYED: &[Named] = &[
         }
         t.read_all();
     }),
+    // W-202: "any write to `$7C` leaves 0, in direct writes, logs and rework".
+    // Both logs acknowledge between ticks, while the flag of voice 3 comes
+    // at other ticks in each and those of the other voices at the same.
+    ("acknowledged", |t| {
+        sounding(t);
+        t.change(SRCN, WAVE, SHIFTED);
+        t.change(PITCH_HIGH, 0x10, 0x1B);
+        t.set(KON, 0x08);
+        for value in [0x08, 0xF7, 0x00, 0xFF] {
+            t.ticks(9);
+            t.read(ENDX);
+            t.set(ENDX, value);
+            t.read(ENDX);
+        }
+        t.ticks(9);
+        t.read_all();
+    }),
+    // The flags that the start records have, one of them in the new alone.
+    ("acknowledged-at-the-start", |t| {
+        ended_in_one(t);
+        t.read(ENDX);
+        t.set(ENDX, 0x08);
+        t.read(ENDX);
+        t.ticks(20);
+        t.read_all();
+    }),
+    // The last write stands in the end record.
+    ("acknowledged-at-the-end", |t| {
+        sounding(t);
+        t.change_3();
+        t.ticks(40);
+        t.read(ENDX);
+        t.set(ENDX, 0xFF);
+    }),
     // ENVX of an idle voice stays; one that ends in the new alone.
     ("ends-in-the-new-alone", |t| {
         sounding(t);
@@ -429,6 +459,15 @@ const PLAYED: &[Named] = &[
         t.read_all();
     }),
 ];
+
+/// The logs begin where voice 3 has come to its end in the new alone.
+fn ended_in_one(two: &mut Two) {
+    sounding(two);
+    two.change(SRCN, WAVE, ENDED);
+    two.set(KON, VOICE_3);
+    two.ticks(12);
+    two.begin();
+}
 
 /// A tick with each PMON, then some more.
 fn modulated(two: &mut Two, pmon: &[u8]) {
