@@ -1,4 +1,6 @@
 // The sound chip for C: entries over numbers and byte slices. tools/c/boltwillow.h says how C calls them.
+#![tactic(auto)]
+
 ghost use Rattle.std.specs.Prelude.{◌≡◌, ◌≤◌};
 ghost use Rattle.dsp.specs.PowerOn.{new_dsp};
 ghost use Rattle.log.specs.Measure.{measure_of};

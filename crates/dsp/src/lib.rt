@@ -1,4 +1,6 @@
 // The chip library: its public entries.
+#![tactic(auto)]
+
 mod adsr;
 mod brr;
 mod echo;

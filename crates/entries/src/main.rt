@@ -8,6 +8,8 @@
 //   their bytes";
 // - bytes, turned, readings: "Where a field and its register byte differ in a given record, a poll's KOFF, a loop
 //   jump's DIR and SRCN and `read_reg` use the bytes, all else the fields".
+#![tactic(auto)]
+
 mod bytes;
 mod calls;
 mod lengths;

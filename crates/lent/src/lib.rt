@@ -1,4 +1,6 @@
 // The one entry that changes a machine record where it lies: `write_reg` on a record that is lent.
+#![tactic(auto)]
+
 ghost use Rattle.std.specs.Prelude.{◌≡◌};
 ghost use Rattle.dsp.specs.Registers.{Written, write_of};
 

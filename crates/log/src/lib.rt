@@ -1,4 +1,6 @@
 // The log: its records, read one by one, and what a caller must lend for it (document 01, "Log, sheet, program").
+#![tactic(auto)]
+
 ghost use Rattle.std.specs.Prelude.{◌≡◌, ◌+◌, ◌-◌, ◌*◌, ◌<◌, length};
 ghost use Rattle.log.specs.Log.{write_record, ticks_record, reading_record, by_mark, read_at, Moves};
 ghost use Rattle.log.specs.Measure.{ticks_in, readings_in, ended_at, unmeasured, measure_of};

@@ -58,7 +58,7 @@ with_higher x n on =
     let p : 2 ^ suc n ≡ 2 ^ n * 2 = pow-suc 2 n in
     let m : d * 2 ^ suc n ≡ d * 2 ^ n * 2 = rw p (omega arith) in
     let l : d * 2 ^ n ≤ x / 2 = digit_le (x / 2) n in
-    rw (← e) (elim on [ true ↦ omega arith | false ↦ omega arith ])
+    rw (← e) (elim on as (λ (b : Bool). x - d * 2 ^ suc n + (if b then 2 ^ suc n else 0) ≡ with_bit (x / 2) n b * 2 + x % 2) [ true ↦ omega arith | false ↦ omega arith ])
 
 pub with_digit : (x n k : ℕ) (on : Bool) → digit (with_bit x n on) k ≡ (if k =? n then (if on then 1 else 0) else digit x k)
 with_digit x zero zero on = rw (with_lowest x on) (omega (arith, one_digit on))

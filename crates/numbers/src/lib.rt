@@ -1,5 +1,7 @@
 // The numbers of the chip: clamps, cuts and bytes of signed numbers, the halves
 // of a u16, the bits of a byte, and sums and differences that wrap or stop at an end. And a copy of bytes.
+#![tactic(auto)]
+
 ghost use Rattle.std.specs.Prelude.{◌≡◌, ◌+◌, ◌-◌, ◌%◌, pos};
 ghost use Rattle.numbers.specs.Bits.{bit, with_bit};
 ghost use Rattle.numbers.specs.Bytes.{copied};

@@ -1,6 +1,8 @@
 // The program `remark`: must a sitting be marked again after a change of named voices? RAM from ram.bin, the named voices from
 // named.bin (a mask of one byte), the old log from old.bin, the new one on standard input; the answer, in words, on standard output.
 // What cannot be read or written is named on standard error.
+#![tactic(auto)]
+
 mod answer;
 mod marking;
 mod telling;

@@ -1,5 +1,7 @@
 // Replays the stored records of the leaves, with no Rust at hand, and prints a line for each: "the rest, and longer
 // logs, a program runs and compares" (document 01). tools/oracle makes the records.
+#![tactic(auto)]
+
 mod block;
 mod envelope;
 mod interpolation;

@@ -1,4 +1,6 @@
 // What the programs share: what they read, the lines they print, digests, and runs with exactly as much lent as is needed.
+#![tactic(auto)]
+
 pub mod cases;
 pub mod digest;
 pub mod input;

@@ -1,4 +1,6 @@
 // The chip's formulas and tables: total functions of numbers, with no record and no RAM.
+#![tactic(auto)]
+
 ghost use Rattle.std.specs.Prelude.{◌≡◌};
 ghost use Rattle.numbers.specs.Listed.{moved_on};
 // in a contract `◌>>◌` is the logic's own

@@ -1,4 +1,6 @@
 // Sound files of a sitting (document 02, W-201): a writer, and a reader for just its layout. A refused call writes nothing.
+#![tactic(auto)]
+
 ghost use Rattle.std.specs.Prelude.{◌≡◌, ◌-◌, ◌≤◌, length};
 ghost use borrow.Rule.Slice.PartMut.{put_mid};
 ghost use Rattle.wav.specs.Wav.{in_bytes, header_of, is_sound, same_bytes, Filed, filed_of, refused_by, frames_of, Restored, read_of};

@@ -2,6 +2,8 @@
 // `wavfile read WAV PCM` turns a WAV file of that layout back into samples. It prints FRAMES and their number, or REFUSED, the
 // refusal and what it says; a file that is refused leaves the other unopened. What cannot be read or written is named on
 // standard error.
+#![tactic(auto)]
+
 mod filing;
 
 use report::lines::complain;
