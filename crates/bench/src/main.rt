@@ -7,7 +7,7 @@ mod running;
 
 ghost use Rattle.std.specs.Prelude.{◌≤◌, length};
 
-use log::Measured;
+use chip_log::Measured;
 use report::input::Loaded;
 use report::lines::complain;
 use report::{input, lines};
@@ -39,7 +39,7 @@ fn with_ram(ram: &mut [u8]) {
 fn with_log(ram: &mut [u8], log: &[u8])
     requires { length log.now ≤ 0x10000 }
 {
-    let m = log::measure(log);
+    let m = chip_log::measure(log);
     if m.refusal != 0 {
         told(lines::refused(m.refusal));
         return;

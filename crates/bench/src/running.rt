@@ -7,7 +7,7 @@ use report::lines;
 use sitting::{Heard, Stage, run_part};
 
 // How a run ended. `measure` has taken the log, so no part is refused; were one, its number is what is said.
-#[derive(Drop)]
+#[derive(Clone, Copy)]
 pub enum Ran {
     Whole,
     Refused(u8),
@@ -16,7 +16,7 @@ pub enum Ran {
 }
 
 // On, with so many readings printed, or the run's end.
-#[derive(Drop)]
+#[derive(Clone, Copy)]
 enum Put {
     On(u64),
     Off(Ran),

@@ -3,13 +3,13 @@
 
 ghost use Rattle.std.specs.Prelude.{◌≡◌, ◌≤◌};
 ghost use Rattle.dsp.specs.PowerOn.{new_dsp};
-ghost use Rattle.log.specs.Measure.{measure_of};
+ghost use Rattle.chip_log.specs.Measure.{measure_of};
 ghost use Rattle.dsp.specs.Run.{run_of};
 ghost use Rattle.rework.specs.Rework.{rework_new_of};
 ghost use Rattle.wav.specs.Wav.{Filed, filed_of, frames_of, read_of};
 ghost use Rattle.boltwillow.specs.Answers.{PlayedOut, played_of, Reworked, reworked_of, frames_answer, ReadOut, restored_of};
 
-use log::measure;
+use chip_log::measure;
 use rework::rework_new;
 use sitting::run_new;
 use wav::{Frames, read_wav, wav_frames, write_wav};

@@ -14,13 +14,13 @@ use borrow.Rule.Slice.PartMut.{put_mid, mid_of, mid_len, Post-is, same_len_mid}
 use Rattle.numbers.specs.Choice.{if◌then◌else◌, ◌=?◌}
 use Rattle.numbers.specs.Bits.{bit}
 use Rattle.numbers.proofs.Parts.{one_more, written_to, done_is, rest_is, part_written}
-use Rattle.log.specs.Log.{Known, read_at, decode_from, decode}
-use Rattle.log.specs.Measure.{ticks_in, readings_in}
-use Rattle.log.specs.declared.Record.{Record}
-use Rattle.log.specs.declared.Record.TheVariants.{Write, Ticks, Reading}
-use Rattle.log.specs.declared.Next.{Next}
-use Rattle.log.specs.declared.Next.TheVariants.{Off}
-use Rattle.log.proofs.Turn.{Here, Turned, ended, most}
+use Rattle.chip_log.specs.Log.{Known, read_at, decode_from, decode}
+use Rattle.chip_log.specs.Measure.{ticks_in, readings_in}
+use Rattle.chip_log.specs.declared.Record.{Record}
+use Rattle.chip_log.specs.declared.Record.TheVariants.{Write, Ticks, Reading}
+use Rattle.chip_log.specs.declared.Next.{Next}
+use Rattle.chip_log.specs.declared.Next.TheVariants.{Off}
+use Rattle.chip_log.proofs.Turn.{Here, Turned, ended, most}
 use Rattle.dsp.specs.Machine.{no_voice, Parts}
 use Rattle.dsp.specs.Keys.{silenced}
 use Rattle.dsp.specs.Registers.{write_voice, resets, globals_after, bytes_after, voices_after, taps_after, write_parts}

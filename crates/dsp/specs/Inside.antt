@@ -5,9 +5,9 @@ use Rattle.numbers.specs.Choice.{if◌then◌else◌, ◌≤?◌, ◌=?◌}
 use Rattle.numbers.specs.Listed.{listed}
 use Rattle.numbers.specs.Unsigned.{least}
 use Rattle.sound.specs.Clock.{period_of}
-use Rattle.log.specs.Log.{decode}
-use Rattle.log.specs.Measure.{total_of}
-use Rattle.log.specs.declared.Measured.{Measured}
+use Rattle.chip_log.specs.Log.{decode}
+use Rattle.chip_log.specs.Measure.{total_of}
+use Rattle.chip_log.specs.declared.Measured.{Measured}
 use Rattle.dsp.specs.Noise.{Noise}
 use Rattle.dsp.specs.Machine.{Globals, Parts, together}
 use Rattle.dsp.specs.With.{with_state, moved, with_position}

@@ -6,9 +6,9 @@ use Rattle.dsp.specs.Fit.{fit}
 use Rattle.dsp.specs.Tick.{everything}
 use Rattle.dsp.specs.declared.registers.Dsp.{Dsp}
 use Rattle.dsp.specs.declared.tick.Work.{Work}
-use Rattle.log.specs.Log.{decode}
-use Rattle.log.specs.Measure.{measure_of}
-use Rattle.log.specs.declared.Measured.{Measured}
+use Rattle.chip_log.specs.Log.{decode}
+use Rattle.chip_log.specs.Measure.{measure_of}
+use Rattle.chip_log.specs.declared.Measured.{Measured}
 use Rattle.dsp.specs.Play.{Run, play_all, starting}
 
 -- what a call leaves: its answer, and the lent slices

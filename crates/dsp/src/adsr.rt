@@ -15,7 +15,7 @@ ghost use Rattle.dsp.specs.declared.adsr.Settings.{Settings};
 
 use crate::mix::scaled_output;
 
-#[derive(Drop)]
+#[derive(Clone, Copy)]
 pub enum EnvelopePhase {
     Attack,
     Decay,
@@ -25,7 +25,7 @@ pub enum EnvelopePhase {
 }
 
 // The envelope of a voice as the Rust has it: the settings and the state together.
-#[derive(Drop)]
+#[derive(Clone, Copy)]
 pub struct Adsr {
     pub adsr_mode: bool,
     pub gain_param: u8,
@@ -39,7 +39,7 @@ pub struct Adsr {
 }
 
 // The settings, with the tick period that each of its rates stands for.
-#[derive(Drop)]
+#[derive(Clone, Copy)]
 pub struct Settings {
     pub adsr_mode: bool,
     pub gain_param: u8,
@@ -53,7 +53,7 @@ pub struct Settings {
     pub gain_period: u16,
 }
 
-#[derive(Drop)]
+#[derive(Clone, Copy)]
 pub struct Envelope {
     pub level: u16,
     pub phase: EnvelopePhase,
@@ -61,7 +61,7 @@ pub struct Envelope {
 }
 
 // A counter after a tick, and whether its step is due.
-#[derive(Drop)]
+#[derive(Clone, Copy)]
 pub struct Tick {
     pub counter: u16,
     pub due: bool,

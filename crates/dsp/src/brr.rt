@@ -7,7 +7,7 @@ ghost use Rattle.dsp.specs.Brr.{sample_of, decode_block};
 ghost use Rattle.dsp.specs.Inside.{as_decoded};
 
 // BRR playback state of one voice.
-#[derive(Drop)]
+#[derive(Clone, Copy)]
 pub struct Brr {
     pub addr: u16,
     pub nibble_idx: u8,
@@ -41,7 +41,7 @@ impl Brr {
 }
 
 // What a block leaves beside its samples: the two newest and the flags of its header.
-#[derive(Drop)]
+#[derive(Clone, Copy)]
 pub struct Block {
     pub prev1: i16,
     pub prev2: i16,

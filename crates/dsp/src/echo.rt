@@ -13,7 +13,7 @@ use crate::registers::Glob;
 use numbers::bit;
 
 // The echo's numbers and its two histories.
-#[derive(Drop)]
+#[derive(Clone, Copy)]
 pub struct Echoed {
     pub glob: Glob,
     pub left: [i16; 8],

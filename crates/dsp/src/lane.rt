@@ -25,7 +25,7 @@ use crate::voice::Voice;
 use numbers::{bit, with_bit};
 
 // What all voices see in a tick. koff and kon are 0 on a tick without a poll; where the echo is not worked, no input is summed for it.
-#[derive(Drop)]
+#[derive(Clone, Copy)]
 pub struct Shared {
     pub koff: u8,
     pub kon: u8,
@@ -39,7 +39,7 @@ pub struct Shared {
 }
 
 // What a tick carries from voice to voice: the output that may modulate the next one, and both sums.
-#[derive(Drop)]
+#[derive(Clone, Copy)]
 pub struct Acc {
     pub prev: i16,
     pub dry_l: i16,
@@ -49,7 +49,7 @@ pub struct Acc {
 }
 
 // What only register writes change of a voice.
-#[derive(Drop)]
+#[derive(Clone, Copy)]
 pub struct Dial {
     pub left_vol: i8,
     pub right_vol: i8,
@@ -59,7 +59,7 @@ pub struct Dial {
 }
 
 // A voice's three records, before and after a poll, and after a block change.
-#[derive(Drop)]
+#[derive(Clone, Copy)]
 pub struct Turned {
     pub envelope: Envelope,
     pub play: Play,

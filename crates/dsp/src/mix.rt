@@ -9,14 +9,14 @@ use crate::registers::{Dsp, Glob};
 use crate::voice::Voice;
 use numbers::bit;
 
-#[derive(Drop)]
+#[derive(Clone, Copy)]
 pub struct Stereo {
     pub l: i16,
     pub r: i16,
 }
 
 // What render_audio_single answers: 0 or the refusal, and the sample.
-#[derive(Drop)]
+#[derive(Clone, Copy)]
 pub struct Sample {
     pub refusal: u8,
     pub left: i16,

@@ -7,7 +7,7 @@ ghost use Rattle.dsp.specs.Inside.{as_noise};
 use crate::adsr::{period_of, tick_due};
 
 // The Rust's noise_lfsr and noise_tick_counter.
-#[derive(Drop)]
+#[derive(Clone, Copy)]
 pub struct Noise {
     pub lfsr: u16,
     pub counter: u16,

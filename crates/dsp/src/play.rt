@@ -17,14 +17,14 @@ use crate::brr::{decode_brr_block, read_le16};
 use crate::gauss::interpolate;
 
 // The pitch source of this tick: none, or what the voice before it gave.
-#[derive(Drop)]
+#[derive(Clone, Copy)]
 pub enum Source {
     Unmodulated,
     From(i16),
 }
 
 // What moves in every tick that sounds: the position, the next sample of the block, and the four newest samples.
-#[derive(Drop)]
+#[derive(Clone, Copy)]
 pub struct Play {
     pub key_on: bool,
     pub nibble_idx: u8,
@@ -36,7 +36,7 @@ pub struct Play {
 }
 
 // The block that is played: what moves at a block change only.
-#[derive(Drop)]
+#[derive(Clone, Copy)]
 pub struct Feed {
     pub addr: u16,
     pub buffer_fill: u8,
@@ -46,14 +46,14 @@ pub struct Feed {
 }
 
 // A block change: the block, and whether it mutes the voice.
-#[derive(Drop)]
+#[derive(Clone, Copy)]
 pub struct Fed {
     pub feed: Feed,
     pub mutes: bool,
 }
 
 // A voice in its tick: whether a block change is due, and how many samples are left to take behind it.
-#[derive(Drop)]
+#[derive(Clone, Copy)]
 pub struct Begun {
     pub play: Play,
     pub due: bool,

@@ -10,7 +10,7 @@ ghost use Rattle.dsp.specs.Inside.{as_globals, with_globals};
 use crate::noise::Noise;
 use crate::voice::Voice;
 
-#[derive(Drop)]
+#[derive(Clone, Copy)]
 pub struct Dsp {
     pub registers: [u8; 128],
     pub voices: [Voice; 8],
@@ -41,7 +41,7 @@ pub struct Dsp {
 }
 
 // The record's numbers that belong to no voice and stand in no array.
-#[derive(Drop)]
+#[derive(Clone, Copy)]
 pub struct Glob {
     pub dir_base: u8,
     pub master_vol_left: i8,
@@ -65,7 +65,7 @@ pub struct Glob {
 }
 
 // What `write_reg`, `step` and `ticks` answer: 0 or the refusal, and the record, which a refused call hands back as it was given.
-#[derive(Drop)]
+#[derive(Clone, Copy)]
 pub struct Answer {
     pub refusal: u8,
     pub dsp: Dsp,

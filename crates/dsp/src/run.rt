@@ -2,7 +2,7 @@
 // again once.
 ghost use Rattle.std.specs.Prelude.{◌&&◌, [], map, ◌≡◌, ◌*◌, ◌≤◌, ◌<◌, length};
 ghost use Rattle.numbers.specs.Choice.{◌=?◌};
-ghost use Rattle.log.specs.Log.{decode};
+ghost use Rattle.chip_log.specs.Log.{decode};
 ghost use Rattle.dsp.specs.Machine.{apart};
 ghost use Rattle.dsp.specs.Fit.{Fit};
 ghost use Rattle.dsp.specs.Registers.{globals_after, bytes_after, taps_after};
@@ -17,11 +17,11 @@ use crate::tick::{
     Far, Moving, RAM_SIZE, Work, currents_of, dials_of, envelopes_of, feeds_of, plays_of, store_of,
     voices_of,
 };
-use log::{Measured, Next, Record, measure, read};
+use chip_log::{Measured, Next, Record, measure, read};
 use sound::{gauss_table, rate_table};
 
 // 0 or the refusal, the record, and how many ticks and readings were put out.
-#[derive(Drop)]
+#[derive(Clone, Copy)]
 pub struct Played {
     pub refusal: u8,
     pub dsp: Dsp,
@@ -30,7 +30,7 @@ pub struct Played {
 }
 
 // What RESET moves of the voices.
-#[derive(Drop)]
+#[derive(Clone, Copy)]
 pub struct Muted {
     pub envelopes: [Envelope; 8],
     pub plays: [Play; 8],

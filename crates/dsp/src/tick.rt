@@ -26,7 +26,7 @@ use sound::{gauss_table, rate_table};
 pub const RAM_SIZE: usize = 0x10000;
 
 // Which lanes of the sheet a tick works: voices by their bits, and the echo. It shows the others as the sheet has them.
-#[derive(Drop)]
+#[derive(Clone, Copy)]
 pub struct Work {
     pub voices: u8,
     pub echo: bool,
@@ -88,7 +88,7 @@ impl Glob {
 }
 
 // The numbers of no voice, and the histories of the echo.
-#[derive(Drop)]
+#[derive(Clone, Copy)]
 pub struct Far {
     pub glob: Glob,
     pub left: [i16; 8],
@@ -97,7 +97,7 @@ pub struct Far {
 
 // What a tick moves: the numbers of no voice, and of each voice three small records, each in an array of its own, so that a turn loads,
 // changes and stores one after another.
-#[derive(Drop)]
+#[derive(Clone, Copy)]
 pub struct Moving {
     pub far: Far,
     pub envelopes: [Envelope; 8],

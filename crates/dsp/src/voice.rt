@@ -8,7 +8,7 @@ ghost use Rattle.dsp.specs.Keys.{silenced};
 use crate::adsr::{Adsr, EnvelopePhase};
 use crate::brr::Brr;
 
-#[derive(Drop)]
+#[derive(Clone, Copy)]
 pub struct Voice {
     pub left_vol: i8,
     pub right_vol: i8,

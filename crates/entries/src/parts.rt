@@ -4,7 +4,7 @@ ghost use Rattle.std.specs.Prelude.{◌<◌};
 use crate::calls::ready;
 use dsp::{Adsr, Brr, Dsp, Voice};
 
-#[derive(Drop)]
+#[derive(Clone, Copy)]
 pub enum Part {
     Level,
     PhaseCounter,

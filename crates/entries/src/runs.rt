@@ -13,7 +13,7 @@ use report::runs::run_on;
 use sitting::Ran;
 
 // How a run is called: by `run_new` or by `run`, the latter from a fit record or not, and how many bytes it is lent.
-#[derive(Drop)]
+#[derive(Clone, Copy)]
 struct Call {
     of_new: bool,
     fit: bool,

@@ -86,7 +86,7 @@ fn same_voice(a: Voice, b: Voice) -> bool {
 }
 
 // What the record has eight of, at one of its places.
-#[derive(Drop)]
+#[derive(Clone, Copy)]
 struct Eighth {
     voice: Voice,
     delay: u8,

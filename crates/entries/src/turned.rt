@@ -87,7 +87,7 @@ fn turned_over(d: Dsp) -> Dsp {
 }
 
 // Two records, each with its own RAM, and how far they have gone alike.
-#[derive(Drop)]
+#[derive(Clone, Copy)]
 struct Pair {
     x: Dsp,
     y: Dsp,
@@ -96,7 +96,7 @@ struct Pair {
     heard: bool,
 }
 
-#[derive(Drop)]
+#[derive(Clone, Copy)]
 struct Ticked {
     dsp: Dsp,
     sample: Sample,

@@ -15,7 +15,7 @@ const IMAGES: u8 = 10;
 const HEAD: usize = 4;
 
 // The record that a run gave back, and how long its log was; or that the file stops inside the log.
-#[derive(Drop)]
+#[derive(Clone, Copy)]
 struct Back {
     stops: bool,
     size: usize,

@@ -1,8 +1,8 @@
 // A pair of sittings: the first run, then reworked to the second.
 ghost use Rattle.std.specs.Prelude.{◌<◌};
 
+use chip_log::measure;
 use dsp::Dsp;
-use log::measure;
 use report::cases::image;
 use report::digest::{EMPTY, with_bytes, with_registers};
 use report::lines;
@@ -12,7 +12,7 @@ use sitting::Ran;
 
 // The number of the RAM image, the mask of the named voices; which slice is lent a byte short or a byte long; which records are
 // unfit: bit 0 the new start record, bit 1 the old end record.
-#[derive(Drop)]
+#[derive(Clone, Copy)]
 pub struct Asked {
     pub ram: u8,
     pub named: u8,

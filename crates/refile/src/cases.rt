@@ -1,7 +1,7 @@
 // The file of cases: 0 to write or 1 to read; how many bytes are lent (32 bits, low byte first); how many bytes of the source stand
 // in the file (16 bits) and how many are made behind them (32 bits); the seed of those; then the bytes that stand there.
 use crate::filed::{read, written};
-use log::word;
+use chip_log::word;
 use report::lines::{numbered, say};
 use report::runs::within;
 
@@ -19,7 +19,7 @@ const WRITE: u8 = 0;
 
 const READ: u8 = 1;
 
-#[derive(Drop)]
+#[derive(Clone, Copy)]
 struct Asked {
     way: u8,
     lent: u32,

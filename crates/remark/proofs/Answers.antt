@@ -11,8 +11,8 @@ use Rattle.numbers.specs.Bytes.{copied}
 use Rattle.numbers.specs.Unsigned.{least}
 use Rattle.dsp.specs.PowerOn.{new_dsp}
 use Rattle.dsp.specs.declared.registers.Dsp.{Dsp}
-use Rattle.log.specs.Measure.{measure_of}
-use Rattle.log.specs.declared.Measured.{Measured}
+use Rattle.chip_log.specs.Measure.{measure_of}
+use Rattle.chip_log.specs.declared.Measured.{Measured}
 use Rattle.dsp.specs.Run.{Outcome}
 use Rattle.rework.specs.Rework.{Left, rework_of}
 use Rattle.report.specs.Runs.{room_for, room_within, room_in, run_cut, registers_in}

@@ -5,7 +5,7 @@ use Rattle.numbers.specs.Choice.{if◌then◌else◌, ◌=?◌}
 use Rattle.numbers.specs.Unsigned.{least}
 use Rattle.dsp.specs.PowerOn.{new_dsp}
 use Rattle.dsp.specs.declared.registers.Dsp.{Dsp}
-use Rattle.log.specs.Measure.{measure_of}
+use Rattle.chip_log.specs.Measure.{measure_of}
 use Rattle.dsp.specs.Run.{Outcome}
 use Rattle.rework.specs.Rework.{Left, rework_of}
 use Rattle.report.specs.Runs.{room_in, run_cut, registers_in}

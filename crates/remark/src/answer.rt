@@ -4,13 +4,13 @@ ghost use Rattle.rework.specs.Rework.{Left};
 ghost use Rattle.remark.specs.Answer.{rework_cut, Both, both_of, Judged as JudgedOf, judge_of, Answer as AnswerOf, answer_of};
 
 use crate::marking::{Verdict, changed, same, verdict_of};
+use chip_log::measure;
 use dsp::Dsp;
-use log::measure;
 use report::runs::{registers_read, room_for, run_cut, within};
 use rework::{Reworked, rework};
 
 // The refusal, and whether it is the old log's own; the set of voices that were worked, and their number.
-#[derive(Drop)]
+#[derive(Clone, Copy)]
 pub struct Worked {
     pub refusal: u8,
     pub of_old: bool,
@@ -19,7 +19,7 @@ pub struct Worked {
 }
 
 // How many readings there are, how many are as before, and how many of the others are listed.
-#[derive(Drop)]
+#[derive(Clone, Copy)]
 pub struct Judged {
     pub readings: usize,
     pub same: u64,
@@ -27,7 +27,7 @@ pub struct Judged {
     pub verdict: Verdict,
 }
 
-#[derive(Drop)]
+#[derive(Clone, Copy)]
 pub struct Answer {
     pub worked: Worked,
     pub judged: Judged,

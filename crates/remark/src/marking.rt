@@ -6,7 +6,7 @@ ghost use Rattle.remark.specs.Marking.{same as sameOf, changed as changedOf, ver
 
 use report::runs::least;
 
-#[derive(Drop)]
+#[derive(Clone, Copy)]
 pub enum Verdict {
     Nothing,
     Changed,

@@ -7,7 +7,7 @@ ghost use Rattle.replay.specs.Noise.{Check};
 use crate::records::{Carry, Checked, byte_at, i8_at, i16_at, is_i16_at};
 use dsp::Dsp;
 
-#[derive(Drop)]
+#[derive(Clone, Copy)]
 pub enum Leaf {
     Nibble,
     Block,

@@ -14,7 +14,7 @@ const PART_MOST: usize = 0x10000;
 
 // What replaying a file came to: so many records, all equal; the number, from 1, of the first that differs; or a
 // file that is no whole number of records, has no end or cannot be read.
-#[derive(Drop)]
+#[derive(Clone, Copy)]
 pub enum Outcome {
     Equal(u64),
     Differs(u64),
@@ -22,13 +22,13 @@ pub enum Outcome {
 }
 
 // The records at the front of a part that are equal, and what the last of them hands on.
-#[derive(Drop)]
+#[derive(Clone, Copy)]
 pub struct Front {
     pub equal: usize,
     pub carry: Carry,
 }
 
-#[derive(Drop)]
+#[derive(Clone, Copy)]
 pub struct Part {
     pub bytes: usize,
     pub front: Front,

@@ -3,13 +3,13 @@ ghost use Rattle.std.specs.Prelude.{◌≡◌, ◌+◌, ◌<◌, length};
 ghost use Rattle.replay.specs.Records.{u8_at, u16_at, i8_at, i16_at, ◌=ℤ?◌};
 
 // What a record hands on to the next one of its file: the noise, which alone has a state.
-#[derive(Drop)]
+#[derive(Clone, Copy)]
 pub struct Carry {
     pub lfsr: u16,
     pub counter: u16,
 }
 
-#[derive(Drop)]
+#[derive(Clone, Copy)]
 pub struct Checked {
     pub equal: bool,
     pub carry: Carry,

@@ -1,8 +1,8 @@
 -- A run that is lent the first bytes of each slice.
 use Rattle.std.proofs.Common.{◌≡◌, ℕ, Bool, true, false, List, length, take, ap, ◌∙◌}
 use Rattle.dsp.specs.declared.registers.Dsp.{Dsp}
-use Rattle.log.specs.Measure.{measure_of}
-use Rattle.log.specs.declared.Measured.{Measured}
+use Rattle.chip_log.specs.Measure.{measure_of}
+use Rattle.chip_log.specs.declared.Measured.{Measured}
 use Rattle.dsp.specs.Run.{Outcome, run_of}
 use Rattle.report.specs.Digest.{empty, digest_of, left_by}
 use Rattle.report.specs.Runs.{room_for, room_within, room_in, with_rest, run_in, run_cut, left_in, left_of, Through, through}

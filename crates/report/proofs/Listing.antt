@@ -2,14 +2,14 @@
 use Rattle.std.proofs.Common.{◌≡◌, ℕ, ◌+◌, ◌<◌, ◌≤◌, List, [], ◌∷◌, length, set, sym, refl, ap, ◌∙◌, ⊎_elim, arith}
 use types.Run.{OneOf}
 use denote.Enum.Declared.{tag_of}
-use Rattle.log.specs.Log.{read_at, Moves, decode, records_from}
-use Rattle.log.specs.declared.Record.{Record}
-use Rattle.log.specs.declared.Record.TheVariants.{Write, Ticks, Reading}
-use Rattle.log.specs.declared.Next.{Next}
-use Rattle.log.specs.declared.Next.TheVariants.{On, Off}
-use Rattle.log.specs.contracts.Record.{the_type}
-use Rattle.log.proofs.Turn.{moved}
-use Rattle.log.proofs.Places.{opened_at, closed_at}
+use Rattle.chip_log.specs.Log.{read_at, Moves, decode, records_from}
+use Rattle.chip_log.specs.declared.Record.{Record}
+use Rattle.chip_log.specs.declared.Record.TheVariants.{Write, Ticks, Reading}
+use Rattle.chip_log.specs.declared.Next.{Next}
+use Rattle.chip_log.specs.declared.Next.TheVariants.{On, Off}
+use Rattle.chip_log.specs.contracts.Record.{the_type}
+use Rattle.chip_log.proofs.Turn.{moved}
+use Rattle.chip_log.proofs.Places.{opened_at, closed_at}
 use Rattle.report.specs.Runs.{registers_of, registers_in}
 use Rattle.report.proofs.Filling.{Filling, unfilled, Filled, ended as filled, one_put, renamed}
 

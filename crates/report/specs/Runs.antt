@@ -4,10 +4,10 @@ use Rattle.numbers.specs.Choice.{if◌then◌else◌}
 use Rattle.numbers.specs.Unsigned.{least}
 use Rattle.dsp.specs.PowerOn.{new_dsp}
 use Rattle.dsp.specs.declared.registers.Dsp.{Dsp}
-use Rattle.log.specs.Log.{decode}
-use Rattle.log.specs.Measure.{measure_of}
-use Rattle.log.specs.declared.Record.{Record}
-use Rattle.log.specs.declared.Record.TheVariants.{Write, Ticks, Reading}
+use Rattle.chip_log.specs.Log.{decode}
+use Rattle.chip_log.specs.Measure.{measure_of}
+use Rattle.chip_log.specs.declared.Record.{Record}
+use Rattle.chip_log.specs.declared.Record.TheVariants.{Write, Ticks, Reading}
 use Rattle.dsp.specs.Run.{Outcome, run_of}
 use Rattle.report.specs.Digest.{empty, digest_of, left_by}
 use Rattle.report.specs.declared.left.Left.{Left}

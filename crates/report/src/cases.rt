@@ -4,7 +4,7 @@ ghost use Rattle.io.specs.Counts.{IsPrefixLen};
 ghost use Rattle.report.specs.Input.{Taken, image_name};
 
 use crate::input::{Took, none};
-use log::word;
+use chip_log::word;
 
 // The images are ram0 to ram9.
 const IMAGES: u8 = 10;

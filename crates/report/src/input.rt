@@ -3,13 +3,13 @@ ghost use Rattle.std.specs.Prelude.{◌≡◌, ◌≤◌, true, length};
 ghost use Rattle.report.specs.Input.{Taken};
 
 // So many bytes at the start of a buffer; and whether a read failed, or the input ended too soon.
-#[derive(Drop)]
+#[derive(Clone, Copy)]
 pub struct Took {
     pub failed: bool,
     pub size: usize,
 }
 
-#[derive(Drop)]
+#[derive(Clone, Copy)]
 pub enum Loaded {
     Whole,
     OtherLength,

@@ -5,7 +5,7 @@ ghost use Rattle.report.specs.Digest.{left_by, same_left};
 use crate::digest::{EMPTY, with_bytes, with_reads, with_registers};
 use dsp::Dsp;
 
-#[derive(Drop)]
+#[derive(Clone, Copy)]
 pub struct Left {
     pub dsp: u64,
     pub ram: u64,

@@ -10,12 +10,12 @@ ghost use Rattle.report.specs.Runs.{room_for, room_within, start_from, run_cut, 
 use crate::digest::{EMPTY, with_bytes};
 use crate::left::Left;
 use crate::lines;
+use chip_log::{Next, Record, measure, read};
 use dsp::Dsp;
-use log::{Next, Record, measure, read};
 use sitting::{Ran, run, run_new};
 
 // How many bytes of each slice are lent.
-#[derive(Drop)]
+#[derive(Clone, Copy)]
 pub struct Room {
     pub pcm: usize,
     pub sheet: usize,
@@ -61,7 +61,7 @@ impl Room {
 }
 
 // What a run left, and its refusal or 0.
-#[derive(Drop)]
+#[derive(Clone, Copy)]
 pub struct Whole {
     pub refusal: u8,
     pub dsp: Dsp,

@@ -10,12 +10,12 @@ use Rattle.numbers.specs.Choice.{if◌then◌else◌, ◌=?◌}
 use Rattle.numbers.proofs.Choice.{tested}
 use Rattle.numbers.specs.Bits.{bit}
 use Rattle.dsp.proofs.Tests.{lt, ◌and◌}
-use Rattle.log.specs.Log.{read_at, Moves, Decoded, before, decode_from, decode}
-use Rattle.log.specs.declared.Record.{Record}
-use Rattle.log.specs.declared.Record.TheVariants.{Write, Ticks, Reading}
-use Rattle.log.specs.declared.Next.{Next}
-use Rattle.log.specs.declared.Next.TheVariants.{On, Off}
-use Rattle.log.proofs.Places.{moves, ByteValue, byte_value}
+use Rattle.chip_log.specs.Log.{read_at, Moves, Decoded, before, decode_from, decode}
+use Rattle.chip_log.specs.declared.Record.{Record}
+use Rattle.chip_log.specs.declared.Record.TheVariants.{Write, Ticks, Reading}
+use Rattle.chip_log.specs.declared.Next.{Next}
+use Rattle.chip_log.specs.declared.Next.TheVariants.{On, Off}
+use Rattle.chip_log.proofs.Places.{moves, ByteValue, byte_value}
 use Rattle.rework.specs.Alike.{named, stays, without}
 use Rattle.rework.specs.Members.{Fields, modes_after, quiet, joined_by, joined_over, members}
 use Rattle.rework.proofs.Bits.{itself}

@@ -12,9 +12,9 @@ use Rattle.dsp.specs.Ticks.{Bench, bench_tick, ticks_of, ticked, step_of}
 use Rattle.dsp.specs.declared.registers.Dsp.{Dsp}
 use Rattle.dsp.proofs.Fits.{fit_facts}
 use Rattle.dsp.proofs.Whole.{tick_whole, tick_renders}
-use Rattle.log.specs.Log.{decode}
-use Rattle.log.specs.declared.Record.{Record}
-use Rattle.log.specs.declared.Record.TheVariants.{Write, Ticks, Reading}
+use Rattle.chip_log.specs.Log.{decode}
+use Rattle.chip_log.specs.declared.Record.{Record}
+use Rattle.chip_log.specs.declared.Record.TheVariants.{Write, Ticks, Reading}
 use Rattle.dsp.specs.Play.{play, play_all, starting}
 use Rattle.rework.specs.Demands.{Played, after_tick, tick_by, log_by, played_in, Demand2}
 use Rattle.rework.proofs.Tape.{Beat, ticks_then, beats, Small}

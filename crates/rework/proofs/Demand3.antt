@@ -12,11 +12,11 @@ use Rattle.dsp.specs.Sheet.{lane_at}
 use Rattle.dsp.specs.Tick.{everything}
 use Rattle.dsp.specs.Ticks.{bench_of}
 use Rattle.dsp.specs.declared.registers.Dsp.{Dsp}
-use Rattle.log.specs.Log.{decode}
-use Rattle.log.specs.Measure.{measure_of}
-use Rattle.log.specs.declared.Record.{Record}
-use Rattle.log.specs.declared.Record.TheVariants.{Write, Ticks, Reading}
-use Rattle.log.proofs.Turn.{taken}
+use Rattle.chip_log.specs.Log.{decode}
+use Rattle.chip_log.specs.Measure.{measure_of}
+use Rattle.chip_log.specs.declared.Record.{Record}
+use Rattle.chip_log.specs.declared.Record.TheVariants.{Write, Ticks, Reading}
+use Rattle.chip_log.proofs.Turn.{taken}
 use Rattle.dsp.specs.Play.{Run, play_all, starting}
 use Rattle.dsp.specs.Run.{ran, run_of}
 use Rattle.rework.specs.Alike.{without, same_record, same_records, alike}

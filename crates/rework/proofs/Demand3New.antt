@@ -12,11 +12,11 @@ use Rattle.dsp.specs.Machine.{apart}
 use Rattle.dsp.specs.PowerOn.{new_dsp}
 use Rattle.dsp.specs.Tick.{everything}
 use Rattle.dsp.specs.Ticks.{bench_of}
-use Rattle.log.specs.Log.{decode}
-use Rattle.log.specs.Measure.{ticks_in, readings_in, measure_of}
-use Rattle.log.specs.declared.Record.{Record}
-use Rattle.log.specs.declared.Record.TheVariants.{Write, Ticks, Reading}
-use Rattle.log.proofs.Turn.{taken}
+use Rattle.chip_log.specs.Log.{decode}
+use Rattle.chip_log.specs.Measure.{ticks_in, readings_in, measure_of}
+use Rattle.chip_log.specs.declared.Record.{Record}
+use Rattle.chip_log.specs.declared.Record.TheVariants.{Write, Ticks, Reading}
+use Rattle.chip_log.proofs.Turn.{taken}
 use Rattle.dsp.specs.Run.{Outcome, run_of}
 use Rattle.rework.specs.Alike.{stays, without}
 use Rattle.rework.specs.Members.{modes_of, quiet}

@@ -18,11 +18,11 @@ use Rattle.dsp.specs.Ticks.{Bench, bench_of, bench_tick, ticks_of, After, step_o
 use Rattle.dsp.specs.declared.registers.Dsp.{Dsp}
 use Rattle.dsp.specs.declared.tick.Work.{Work}
 use Rattle.dsp.proofs.Fits.{fit_facts, facts_fit, new-fit, fit-kept-write, no_voice-fit}
-use Rattle.log.specs.Log.{read_at, Moves, decode}
-use Rattle.log.specs.declared.Record.TheVariants.{Write, Ticks, Reading}
-use Rattle.log.specs.declared.Next.{Next}
-use Rattle.log.specs.declared.Next.TheVariants.{On, Off}
-use Rattle.log.proofs.Places.{moves, ByteValue, byte_value}
+use Rattle.chip_log.specs.Log.{read_at, Moves, decode}
+use Rattle.chip_log.specs.declared.Record.TheVariants.{Write, Ticks, Reading}
+use Rattle.chip_log.specs.declared.Next.{Next}
+use Rattle.chip_log.specs.declared.Next.TheVariants.{On, Off}
+use Rattle.chip_log.proofs.Places.{moves, ByteValue, byte_value}
 use Rattle.dsp.specs.Run.{run_with, run_of}
 use Rattle.sitting.specs.Parts.{Told, Parted, stop_at, record_at, next_at, ticks_now, sounding, log_refusal, part_of}
 use Rattle.numbers.specs.Listed.{listed}

@@ -36,8 +36,8 @@ use Rattle.dsp.specs.Ticks.{bench_tick, ticks_of, step_of}
 use Rattle.sound.specs.Sound.{fir_sum, fir_of}
 use Rattle.dsp.specs.declared.voice.Voice.{Voice}
 use Rattle.dsp.specs.declared.registers.Dsp.{Dsp}
-use Rattle.log.specs.Log.{write_record, ticks_record, reading_record, by_mark, read_at, decode_from, decode}
-use Rattle.log.specs.Measure.{measure_of}
+use Rattle.chip_log.specs.Log.{write_record, ticks_record, reading_record, by_mark, read_at, decode_from, decode}
+use Rattle.chip_log.specs.Measure.{measure_of}
 use Rattle.dsp.specs.Run.{Outcome, run_of, run_measured, run_with}
 use Rattle.dsp.specs.Play.{play, play_all}
 use Rattle.rework.specs.Members.{modes_of, quiet, joined_by, joined_over, members, voices_in}

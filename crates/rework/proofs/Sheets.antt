@@ -15,12 +15,12 @@ use Rattle.dsp.specs.Sheet.{pair_bytes, lane_at}
 use Rattle.dsp.specs.Tick.{tick_of}
 use Rattle.dsp.specs.declared.tick.Work.{Work}
 use Rattle.dsp.proofs.Batches.{lane_part}
-use Rattle.log.specs.Log.{decode}
-use Rattle.log.specs.Measure.{ticks_in, readings_in, total, measure_of}
-use Rattle.log.specs.declared.Measured.{Measured}
-use Rattle.log.specs.declared.Record.{Record}
-use Rattle.log.specs.declared.Record.TheVariants.{Write, Ticks, Reading}
-use Rattle.log.proofs.Turn.{good, taken}
+use Rattle.chip_log.specs.Log.{decode}
+use Rattle.chip_log.specs.Measure.{ticks_in, readings_in, total, measure_of}
+use Rattle.chip_log.specs.declared.Measured.{Measured}
+use Rattle.chip_log.specs.declared.Record.{Record}
+use Rattle.chip_log.specs.declared.Record.TheVariants.{Write, Ticks, Reading}
+use Rattle.chip_log.proofs.Turn.{good, taken}
 use Rattle.rework.specs.Differ.{Outside, SameBut}
 use Rattle.rework.proofs.Tape.{Beat, ticks_then, beats, Tape, tape, Rows, none, more, Over, over, upon}
 use Rattle.rework.proofs.Right.{Sized36}

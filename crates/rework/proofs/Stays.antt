@@ -4,11 +4,11 @@ use mathlib.Core.List.{List, [], ◌∷◌}
 use mathlib.Core.Path.{◌≡◌, sym, ap, subst, ◌∙◌}
 use Prim.Native.Nat.{ℕ}
 use Rattle.numbers.specs.Choice.{if◌then◌else◌}
-use Rattle.log.specs.Log.{read_at, Moves, Known, records_from}
-use Rattle.log.specs.declared.Record.{Record}
-use Rattle.log.specs.declared.Next.{Next}
-use Rattle.log.specs.declared.Next.TheVariants.{On, Off}
-use Rattle.log.proofs.Places.{opened_at, closed_at}
+use Rattle.chip_log.specs.Log.{read_at, Moves, Known, records_from}
+use Rattle.chip_log.specs.declared.Record.{Record}
+use Rattle.chip_log.specs.declared.Next.{Next}
+use Rattle.chip_log.specs.declared.Next.TheVariants.{On, Off}
+use Rattle.chip_log.proofs.Places.{opened_at, closed_at}
 use Rattle.rework.specs.Alike.{stays, without, Opens}
 
 pub known : (at size : ℕ) {behind : ℕ} {r : Record} {n : Next} → n ≡ On r behind → Moves at size n → Known r

@@ -12,8 +12,8 @@ use Rattle.dsp.specs.Fit.{fit}
 use Rattle.dsp.specs.declared.registers.Dsp.{Dsp}
 use Rattle.dsp.specs.declared.tick.Work.{Work}
 use Rattle.dsp.proofs.Tests.{eq, ◌and◌}
-use Rattle.log.specs.Log.{decode}
-use Rattle.log.specs.Measure.{measure_of}
+use Rattle.chip_log.specs.Log.{decode}
+use Rattle.chip_log.specs.Measure.{measure_of}
 use Rattle.dsp.specs.Play.{play_all, starting}
 use Rattle.dsp.specs.Run.{Outcome, ran, run_measured, run_with}
 

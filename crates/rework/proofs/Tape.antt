@@ -15,8 +15,8 @@ use Rattle.dsp.specs.Sheet.{lane_at}
 use Rattle.dsp.specs.Echo.{EchoLane, echo_moved, echo_tick, echo_from, echo_lane}
 use Rattle.dsp.specs.Tick.{Ticked, globals_tick, tick_of}
 use Rattle.dsp.specs.declared.tick.Work.{Work}
-use Rattle.log.specs.declared.Record.{Record}
-use Rattle.log.specs.declared.Record.TheVariants.{Write, Ticks, Reading}
+use Rattle.chip_log.specs.declared.Record.{Record}
+use Rattle.chip_log.specs.declared.Record.TheVariants.{Write, Ticks, Reading}
 use Rattle.rework.specs.Alike.{named}
 use Rattle.rework.specs.Members.{Fields, modes_after, joined_by}
 use Rattle.rework.specs.Differ.{Outside, SameBut}

@@ -5,8 +5,8 @@ use Prim.Native.Nat.{ℕ, zero, suc}
 use Rattle.dsp.specs.Tick.{Ticked, tick_of}
 use Rattle.dsp.specs.Ticks.{Bench, onward, bench_tick, bench_write, ticks_of}
 use Rattle.dsp.specs.declared.tick.Work.{Work}
-use Rattle.log.specs.declared.Record.{Record}
-use Rattle.log.specs.declared.Record.TheVariants.{Write, Ticks, Reading}
+use Rattle.chip_log.specs.declared.Record.{Record}
+use Rattle.chip_log.specs.declared.Record.TheVariants.{Write, Ticks, Reading}
 use Rattle.dsp.specs.Play.{Run, register_in, play, play_all}
 use Rattle.rework.proofs.Tape.{Beat, tick, ticks_then, beats, Tape, behind_tick, behind_reading, tape}
 

@@ -5,11 +5,11 @@ use mathlib.Core.Logic.{◌≢◌}
 use mathlib.Core.Path.{◌≡◌, refl, sym, ap, ◌∙◌}
 use Prim.Native.Nat.{ℕ, zero, suc, ◌<◌}
 use native.Mathlib.Omega.{arith}
-use Rattle.log.specs.Log.{read_at, records_from}
-use Rattle.log.specs.declared.Record.{Record}
-use Rattle.log.specs.declared.Next.{Next}
-use Rattle.log.specs.declared.Next.TheVariants.{On, Off}
-use Rattle.log.proofs.Places.{opened_at, closed_at}
+use Rattle.chip_log.specs.Log.{read_at, records_from}
+use Rattle.chip_log.specs.declared.Record.{Record}
+use Rattle.chip_log.specs.declared.Next.{Next}
+use Rattle.chip_log.specs.declared.Next.TheVariants.{On, Off}
+use Rattle.chip_log.proofs.Places.{opened_at, closed_at}
 use Rattle.rework.specs.Members.{Fields, modes_by, quiet_in, quiet, joined_by, joined_over, joined_in, members}
 use Rattle.rework.proofs.Bits.{joined_twice}
 

@@ -11,13 +11,13 @@ use Rattle.dsp.specs.Sheet.{pair_bytes, lane_at}
 use Rattle.dsp.specs.Ticks.{After, refused, step_of, Drove, undriven, drive_of}
 use Rattle.dsp.specs.declared.registers.Dsp.{Dsp}
 use Rattle.dsp.specs.declared.tick.Work.{Work}
-use Rattle.log.specs.Log.{read_at, decode}
-use Rattle.log.specs.Measure.{measure_of, unmeasured}
-use Rattle.log.specs.declared.Record.{Record}
-use Rattle.log.specs.declared.Record.TheVariants.{Write, Ticks, Reading}
-use Rattle.log.specs.declared.Measured.{Measured}
-use Rattle.log.specs.declared.Next.{Next}
-use Rattle.log.specs.declared.Next.TheVariants.{On, Off}
+use Rattle.chip_log.specs.Log.{read_at, decode}
+use Rattle.chip_log.specs.Measure.{measure_of, unmeasured}
+use Rattle.chip_log.specs.declared.Record.{Record}
+use Rattle.chip_log.specs.declared.Record.TheVariants.{Write, Ticks, Reading}
+use Rattle.chip_log.specs.declared.Measured.{Measured}
+use Rattle.chip_log.specs.declared.Next.{Next}
+use Rattle.chip_log.specs.declared.Next.TheVariants.{On, Off}
 use Rattle.dsp.specs.Run.{Outcome, unrun, run_with, run_of}
 use Rattle.sitting.specs.Parts.{Parted, unparted, part_of}
 use Rattle.rework.specs.Refusals.{◌when◌, first_of, ram_is_not_whole, is_unfit, is_too_long, is_not_as_long, fault_of}

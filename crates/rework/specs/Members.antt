@@ -5,8 +5,8 @@ use Rattle.numbers.specs.Bits.{bit, with_bit}
 use Rattle.numbers.specs.Listed.{turns}
 use Rattle.dsp.specs.Registers.{at}
 use Rattle.dsp.specs.declared.registers.Dsp.{Dsp}
-use Rattle.log.specs.declared.Record.{Record}
-use Rattle.log.specs.declared.Record.TheVariants.{Write, Ticks, Reading}
+use Rattle.chip_log.specs.declared.Record.{Record}
+use Rattle.chip_log.specs.declared.Record.TheVariants.{Write, Ticks, Reading}
 
 -- ---- the two fields that decide, as the writes leave them; a tick changes neither
 

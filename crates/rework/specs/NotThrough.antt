@@ -10,7 +10,7 @@ use Rattle.dsp.specs.Mix.{output_of, master_of, render_of}
 use Rattle.dsp.specs.Ticks.{refused, step_of, undriven}
 use Rattle.dsp.specs.declared.registers.Dsp.{Dsp}
 use Rattle.dsp.specs.declared.voice.Voice.{Voice}
-use Rattle.log.specs.Measure.{unmeasured}
+use Rattle.chip_log.specs.Measure.{unmeasured}
 use Rattle.dsp.specs.Run.{Outcome, unrun, run_of}
 use Rattle.sitting.specs.Parts.{unparted}
 use Rattle.rework.specs.Rework.{Left, unreworked, rework_of}

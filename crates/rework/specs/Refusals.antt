@@ -3,7 +3,7 @@ use Rattle.std.specs.Prelude.{Bool, not, ◌&&◌, ◌||◌, List, [], ◌∷◌
 use Rattle.numbers.specs.Choice.{if◌then◌else◌, ◌≤?◌, ◌<?◌, ◌=?◌}
 use Rattle.dsp.specs.Fit.{fit}
 use Rattle.dsp.specs.declared.registers.Dsp.{Dsp}
-use Rattle.log.specs.Log.{byte_in}
+use Rattle.chip_log.specs.Log.{byte_in}
 
 -- ---- the first that applies
 

@@ -8,8 +8,8 @@ use Rattle.dsp.specs.PowerOn.{new_dsp}
 use Rattle.dsp.specs.Fit.{fit}
 use Rattle.dsp.specs.declared.registers.Dsp.{Dsp}
 use Rattle.dsp.specs.declared.tick.Work.{Work}
-use Rattle.log.specs.Log.{decode}
-use Rattle.log.specs.Measure.{measure_of}
+use Rattle.chip_log.specs.Log.{decode}
+use Rattle.chip_log.specs.Measure.{measure_of}
 use Rattle.dsp.specs.Run.{Outcome, run_with, run_of}
 use Rattle.rework.specs.Alike.{alike}
 use Rattle.rework.specs.Members.{modes_of, quiet, members, voices_in}

@@ -1,14 +1,14 @@
 // The set A over a log, and whether echo writing is off at every tick of it.
 ghost use Rattle.std.specs.Prelude.{◌≡◌, ◌&&◌, ◌<◌};
-ghost use Rattle.log.specs.Log.{decode};
+ghost use Rattle.chip_log.specs.Log.{decode};
 ghost use Rattle.rework.specs.Members.{Fields, modes_by, quiet_in, quiet, join_after, joined_by, joined_over, joined_in, members};
 
 use crate::modes::Modes;
-use log::{Next, Record, read};
+use chip_log::{Next, Record, read};
 use numbers::{bit, with_bit};
 
 // How far a walk over the log has come: the fields, whether every tick so far was quiet, and the set so far.
-#[derive(Drop)]
+#[derive(Clone, Copy)]
 pub struct Walked {
     pub modes: Modes,
     pub quiet: bool,

@@ -1,10 +1,10 @@
 // Whether two logs are the same records in the same order without the named voices' own writes.
 ghost use Rattle.std.specs.Prelude.{◌≡◌, ◌<◌};
-ghost use Rattle.log.specs.Log.{Known, decode};
-ghost use Rattle.log.specs.declared.Record.TheVariants.{Write, Ticks, Reading};
+ghost use Rattle.chip_log.specs.Log.{Known, decode};
+ghost use Rattle.chip_log.specs.declared.Record.TheVariants.{Write, Ticks, Reading};
 ghost use Rattle.rework.specs.Alike.{named, stays, same_record, alike, Opens};
 
-use log::{Next, Record, read};
+use chip_log::{Next, Record, read};
 use numbers::bit;
 
 // One of $j0 .. $j7 of a named voice j.

@@ -2,7 +2,7 @@
 ghost use Rattle.std.specs.Prelude.{◌≡◌};
 ghost use Rattle.rework.specs.Members.{Fields, modes_after};
 
-#[derive(Drop)]
+#[derive(Clone, Copy)]
 pub struct Modes {
     pub flg: u8,
     pub pmon: u8,

@@ -9,13 +9,13 @@ use crate::joining::walk;
 use crate::likeness::are_alike;
 use crate::modes::Modes;
 use crate::sets::count;
+use chip_log::measure;
 use dsp::{Dsp, RAM_SIZE, Work};
-use log::measure;
 use numbers::copy;
 use sitting::{run_new, run_with};
 
 // 0 or the refusal, the end record, the set A, and the number of voices in it.
-#[derive(Drop)]
+#[derive(Clone, Copy)]
 pub struct Reworked {
     pub refusal: u8,
     pub dsp: Dsp,
@@ -24,7 +24,7 @@ pub struct Reworked {
 }
 
 // 0 and the set A, or the refusal.
-#[derive(Drop)]
+#[derive(Clone, Copy)]
 pub struct Verdict {
     pub refusal: u8,
     pub members: u8,

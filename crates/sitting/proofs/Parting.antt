@@ -14,11 +14,11 @@ use Rattle.dsp.specs.Ticks.{bench_of, Drove, drive_of}
 use Rattle.dsp.specs.declared.registers.Dsp.{Dsp}
 use Rattle.dsp.specs.declared.tick.Work.{Work}
 use Rattle.dsp.proofs.Batches.{driven}
-use Rattle.log.specs.Log.{read_at, Moves}
-use Rattle.log.specs.declared.Record.TheVariants.{Write, Ticks, Reading}
-use Rattle.log.specs.declared.Next.{Next}
-use Rattle.log.specs.declared.Next.TheVariants.{On, Off}
-use Rattle.log.proofs.Places.{moves}
+use Rattle.chip_log.specs.Log.{read_at, Moves}
+use Rattle.chip_log.specs.declared.Record.TheVariants.{Write, Ticks, Reading}
+use Rattle.chip_log.specs.declared.Next.{Next}
+use Rattle.chip_log.specs.declared.Next.TheVariants.{On, Off}
+use Rattle.chip_log.proofs.Places.{moves}
 use Rattle.sitting.specs.Parts.{Told, Parted, telling, untold, stop_at, record_at, next_at, sounding_from, sounding, part_of, Goes}
 use Rattle.sitting.specs.declared.parts.Heard.TheVariants.{Sound}
 use Rattle.sitting.proofs.Runs.{ticks_unseen}

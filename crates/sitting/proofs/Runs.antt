@@ -6,8 +6,8 @@ use Rattle.dsp.specs.Tick.{everything}
 use Rattle.dsp.specs.Ticks.{Bench, onward, bench_tick, ticks_of}
 use Rattle.dsp.specs.Play.{Run, play, play_all}
 use Rattle.dsp.proofs.Whole.{tick_whole}
-use Rattle.log.specs.declared.Record.{Record}
-use Rattle.log.specs.declared.Record.TheVariants.{Write, Ticks, Reading}
+use Rattle.chip_log.specs.declared.Record.{Record}
+use Rattle.chip_log.specs.declared.Record.TheVariants.{Write, Ticks, Reading}
 
 abbrev pub unseen_bench : Bench → Bench
 unseen_bench b = record { parts = b.parts; ram = b.ram; pcm = b.pcm; sheet = b.sheet; old = [] }

@@ -15,15 +15,15 @@ use Rattle.dsp.specs.Ticks.{Bench, bench_of}
 use Rattle.dsp.specs.declared.registers.Dsp.{Dsp}
 use Rattle.dsp.proofs.Fits.{facts_fit, fit_facts}
 use Rattle.dsp.proofs.Ticks.{BenchFit, bench-fit, fit-bench, fit-kept-ticks, fit-kept-bench-write}
-use Rattle.log.specs.Log.{read_at}
-use Rattle.log.specs.Measure.{measure_of}
-use Rattle.log.specs.declared.Record.{Record}
-use Rattle.log.specs.declared.Record.TheVariants.{Write, Ticks, Reading}
-use Rattle.log.specs.declared.Measured.{Measured}
-use Rattle.log.specs.declared.Next.{Next}
-use Rattle.log.specs.declared.Next.TheVariants.{On, Off}
-use Rattle.log.proofs.Places.{moves, ByteValue, byte_value}
-use Rattle.log.proofs.Turn.{Here, Taken, taken, here_first, turned, ended}
+use Rattle.chip_log.specs.Log.{read_at}
+use Rattle.chip_log.specs.Measure.{measure_of}
+use Rattle.chip_log.specs.declared.Record.{Record}
+use Rattle.chip_log.specs.declared.Record.TheVariants.{Write, Ticks, Reading}
+use Rattle.chip_log.specs.declared.Measured.{Measured}
+use Rattle.chip_log.specs.declared.Next.{Next}
+use Rattle.chip_log.specs.declared.Next.TheVariants.{On, Off}
+use Rattle.chip_log.proofs.Places.{moves, ByteValue, byte_value}
+use Rattle.chip_log.proofs.Turn.{Here, Taken, taken, here_first, turned, ended}
 use Rattle.sitting.specs.Parts.{Parted, stop_at, record_at, next_at, ticks_now, sounding, log_refusal, part_of, further_parts, Roomy, PartsChecked}
 use Rattle.sitting.proofs.Together.{Admitted, by_tests}
 

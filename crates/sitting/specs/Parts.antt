@@ -8,12 +8,12 @@ use Rattle.dsp.specs.Registers.{write_at}
 use Rattle.dsp.specs.Tick.{everything}
 use Rattle.dsp.specs.Ticks.{Bench, bench_of, ticks_of}
 use Rattle.dsp.specs.declared.registers.Dsp.{Dsp}
-use Rattle.log.specs.Log.{read_at, records_from}
-use Rattle.log.specs.Measure.{measure_of}
-use Rattle.log.specs.declared.Record.{Record}
-use Rattle.log.specs.declared.Record.TheVariants.{Write, Ticks, Reading}
-use Rattle.log.specs.declared.Next.{Next}
-use Rattle.log.specs.declared.Next.TheVariants.{On, Off}
+use Rattle.chip_log.specs.Log.{read_at, records_from}
+use Rattle.chip_log.specs.Measure.{measure_of}
+use Rattle.chip_log.specs.declared.Record.{Record}
+use Rattle.chip_log.specs.declared.Record.TheVariants.{Write, Ticks, Reading}
+use Rattle.chip_log.specs.declared.Next.{Next}
+use Rattle.chip_log.specs.declared.Next.TheVariants.{On, Off}
 use Rattle.dsp.specs.Play.{Run, play_all, starting}
 use Rattle.dsp.specs.Run.{run_of}
 use Rattle.sitting.specs.declared.parts.Heard.{Heard}

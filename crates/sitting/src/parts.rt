@@ -2,19 +2,19 @@
 // ticks of a TK record as the buffer holds.
 ghost use Rattle.std.specs.Prelude.{◌≡◌, ◌*◌, ◌≤◌, length};
 ghost use Rattle.dsp.specs.Fit.{Fit};
-ghost use Rattle.log.specs.Log.{read_at, Known};
+ghost use Rattle.chip_log.specs.Log.{read_at, Known};
 ghost use Rattle.sitting.specs.Parts.{Parted, told_by, telling, untold, stop_at, record_at, next_at, ticks_now, sounding, log_refusal, part_of, Goes};
 
 use crate::running::everything;
+use chip_log::{LOG_MOST, Next, Record, measure, read};
 use dsp::{Dsp, RAM_SIZE};
-use log::{LOG_MOST, Next, Record, measure, read};
 
 // So many ticks go in one call of the chip at most, as a sheet of so many rows is kept aside.
 const TICKS_AT_ONCE: u16 = 64;
 
 // Where a run in parts stands: the record, the place in the log, and the ticks of the TK record before it that are
 // still to come. These two are set here alone: a stage behind the front of a log comes of a log that was checked.
-#[derive(Drop)]
+#[derive(Clone, Copy)]
 pub struct Stage {
     pub dsp: Dsp,
     at: usize,
@@ -22,7 +22,7 @@ pub struct Stage {
 }
 
 // What a part puts out: nothing, so many ticks in the PCM buffer, or a reading; or the log has ended.
-#[derive(Drop)]
+#[derive(Clone, Copy)]
 pub enum Heard {
     Nothing,
     Sound(u16),
@@ -30,7 +30,7 @@ pub enum Heard {
     End,
 }
 
-#[derive(Drop)]
+#[derive(Clone, Copy)]
 pub struct Part {
     pub refusal: u8,
     pub stage: Stage,

@@ -7,7 +7,7 @@ ghost use Rattle.dsp.specs.Run.{Outcome, run_with, run_of};
 use dsp::{Dsp, Work, play_log};
 
 // 0 or the refusal, the record, and how many ticks and readings were put out.
-#[derive(Drop)]
+#[derive(Clone, Copy)]
 pub struct Ran {
     pub refusal: u8,
     pub dsp: Dsp,

@@ -1,12 +1,12 @@
 // A log that `run_new` took, run again by `write_reg`, `step` and `render_audio_single`, with a digest over every tick.
+use chip_log::{Next, Record, read};
 use dsp::Dsp;
-use log::{Next, Record, read};
 use report::digest::{EMPTY, with_byte, with_bytes, with_reads, with_registers, with_sample};
 use report::left::Left;
 use report::lines;
 
 // How far a run has come: the chip, the digests of samples, readings and every tick, and a refusal that ends it.
-#[derive(Drop)]
+#[derive(Clone, Copy)]
 struct Run {
     refusal: u8,
     dsp: Dsp,

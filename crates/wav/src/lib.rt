@@ -25,7 +25,7 @@ const BITS_A_SAMPLE: u32 = 16;
 const BYTES_A_FRAME: u32 = CHANNELS * BITS_A_SAMPLE / 8;
 
 // A file's frames; or its refusal, and no frames.
-#[derive(Drop)]
+#[derive(Clone, Copy)]
 pub struct Frames {
     pub refusal: u8,
     pub frames: u32,

@@ -1,7 +1,7 @@
 -- The field of what `measure` answers.
 use borrow.Author.Rules.{rules}
 use mathlib.Core.Path.{ap}
-use Rattle.log.specs.declared.Measured.{Measured}
+use Rattle.chip_log.specs.declared.Measured.{Measured}
 use Rattle.boltwillow.proofs.bw_readings.Statement.{statement}
 use Rattle.boltwillow.proofs.bw_readings.Tie as tie
 

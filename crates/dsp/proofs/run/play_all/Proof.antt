@@ -21,11 +21,11 @@ use Rattle.dsp.proofs.Made.{histories, dials_wound, voices-again}
 use Rattle.dsp.proofs.Ticks.{BenchFit, bench-fit}
 use Rattle.dsp.proofs.Writes.{reset_tested}
 use Rattle.dsp.proofs.Logs.{Playing, standing, bench_now, Between, started, room, finished, hushed_arrays, on_write, on_ticks, on_reading}
-use Rattle.log.specs.Log.{Known}
-use Rattle.log.specs.Measure.{ticks_in, readings_in}
-use Rattle.log.specs.declared.Record.{Record}
-use Rattle.log.specs.declared.Record.TheVariants.{Write, Ticks, Reading}
-use Rattle.log.proofs.Turn.{Turned, turned}
+use Rattle.chip_log.specs.Log.{Known}
+use Rattle.chip_log.specs.Measure.{ticks_in, readings_in}
+use Rattle.chip_log.specs.declared.Record.{Record}
+use Rattle.chip_log.specs.declared.Record.TheVariants.{Write, Ticks, Reading}
+use Rattle.chip_log.proofs.Turn.{Turned, turned}
 use Rattle.dsp.proofs.run.play_all.Statement.{statement}
 use Rattle.dsp.proofs.run.play_all.Tie as tie
 

@@ -5,7 +5,7 @@ use mathlib.Core.Path.{◌≡◌, sym, ◌∙◌}
 use native.Mathlib.Omega.{arith}
 use lib.ListN.{length}
 use borrow.Author.Tests.{eq-eqb, ne_eqb, not-true, not-false}
-use Rattle.log.proofs.Turn.{taken}
+use Rattle.chip_log.proofs.Turn.{taken}
 use Rattle.dsp.specs.Fit.{fit}
 use Rattle.dsp.specs.Run.{ran, run_measured, run_with}
 use Rattle.dsp.proofs.Fits.{fit_facts}

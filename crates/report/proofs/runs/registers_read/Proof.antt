@@ -1,6 +1,6 @@
 -- What is left of the log gives the registers that are still to be listed. The measure is the bytes of the log that are left.
 use Rattle.std.proofs.Common.{◌-◌, ◌<◌, length, arith, rules}
-use Rattle.log.proofs.Turn.{moved}
+use Rattle.chip_log.proofs.Turn.{moved}
 use Rattle.report.proofs.Filling.{long, full}
 use Rattle.report.proofs.Listing.{Listed, first, ended, listed, passed, others}
 use Rattle.report.proofs.runs.registers_read.Statement.{statement}

@@ -5,8 +5,8 @@ use mathlib.Core.Path.{◌≡◌, refl, sym, ◌∙◌}
 use Prim.Native.Nat.{◌-◌}
 use native.Mathlib.Omega.{arith}
 use lib.ListN.{length}
-use Rattle.log.specs.Log.{records_from, decode}
-use Rattle.log.proofs.Turn.{moved}
+use Rattle.chip_log.specs.Log.{records_from, decode}
+use Rattle.chip_log.proofs.Turn.{moved}
 use Rattle.rework.specs.Members.{Fields, quiet, members}
 use Rattle.rework.specs.declared.joining.Walked.{Walked}
 use Rattle.rework.proofs.Walks.{quiet_on, quiet-end, members_on, members-end}

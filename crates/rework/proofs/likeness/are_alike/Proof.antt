@@ -5,7 +5,7 @@ use Prim.Native.Nat.{◌-◌}
 use native.Mathlib.Omega.{arith}
 use lib.ListN.{length}
 use borrow.Author.Tests.{not-true, not-false}
-use Rattle.log.specs.Log.{records_from, decode}
+use Rattle.chip_log.specs.Log.{records_from, decode}
 use Rattle.rework.specs.Alike.{without, same_records, alike}
 use Rattle.rework.proofs.Stays.{opens_as}
 use Rattle.rework.proofs.likeness.are_alike.Statement.{statement}

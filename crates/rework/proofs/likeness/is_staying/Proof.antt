@@ -1,7 +1,7 @@
 -- By the kind of the record.
 use borrow.Author.Rules.{rules}
 use mathlib.Core.Path.{subst}
-use Rattle.log.specs.Log.{Known}
+use Rattle.chip_log.specs.Log.{Known}
 use Rattle.rework.proofs.likeness.is_staying.Statement.{statement}
 use Rattle.rework.proofs.likeness.is_staying.Tie as tie
 

@@ -4,8 +4,8 @@ use mathlib.Core.Path.{◌≡◌, refl, ◌∙◌}
 use Prim.Native.Nat.{◌≤◌, ◌-◌}
 use native.Mathlib.Omega.{arith}
 use lib.ListN.{length}
-use Rattle.log.specs.Log.{records_from}
-use Rattle.log.proofs.Turn.{moved}
+use Rattle.chip_log.specs.Log.{records_from}
+use Rattle.chip_log.proofs.Turn.{moved}
 use Rattle.rework.specs.Alike.{without}
 use Rattle.rework.proofs.Stays.{known, closed, opened}
 use Rattle.rework.proofs.likeness.next_staying.Statement.{statement}

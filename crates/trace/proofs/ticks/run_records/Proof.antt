@@ -4,7 +4,7 @@ use mathlib.Core.Path.{◌≡◌}
 use Prim.Native.Nat.{◌-◌, ◌≤◌}
 use lib.ListN.{length}
 use native.Mathlib.Omega.{arith}
-use Rattle.log.proofs.Turn.{moved}
+use Rattle.chip_log.proofs.Turn.{moved}
 use Rattle.trace.proofs.ticks.run_records.Statement.{statement}
 use Rattle.trace.proofs.ticks.run_records.Tie as tie
 

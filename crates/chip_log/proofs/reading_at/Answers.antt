@@ -1,0 +1,20 @@
+-- By the two tests.
+use borrow.Author.Rules.{rules}
+use native.Mathlib.Omega.{arith}
+use lib.ListN.{length}
+use borrow.Author.Tests.{le-ltb, lt-ltb}
+use Rattle.chip_log.specs.Log.{reading_record}
+use Rattle.chip_log.proofs.Places.{cut_short, whole}
+use Rattle.chip_log.proofs.reading_at.Goals as goal
+
+pub returns-then-left-lt3 : goal.returns-then-left-lt3
+unfolding reading_record
+returns-then-left-lt3 c = (simp (cut_short 3 (length c.args.log.now) c.args.at c.args.left c.requires c.if-left-lt3.true), tt)
+
+pub returns-then-register-gt-REGISTER_MOST : goal.returns-then-register-gt-REGISTER_MOST
+unfolding reading_record
+returns-then-register-gt-REGISTER_MOST c = (simp (whole 3 (length c.args.log.now) c.args.at c.args.left c.requires c.if-left-lt3.false, lt-ltb _ _ c.if-register-gt-REGISTER_MOST.true), tt)
+
+pub returns : goal.returns
+unfolding reading_record
+returns c = (simp (whole 3 (length c.args.log.now) c.args.at c.args.left c.requires c.if-left-lt3.false, le-ltb _ _ c.if-register-gt-REGISTER_MOST.false), omega arith)
