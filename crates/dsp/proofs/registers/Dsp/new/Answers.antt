@@ -1,0 +1,6 @@
+-- Its voices are new.
+use borrow.Author.Rules.{rules}
+use Rattle.dsp.proofs.registers.Dsp.new.Goals as goal
+
+pub returns : goal.returns
+returns c = rw c.new-v.ensures

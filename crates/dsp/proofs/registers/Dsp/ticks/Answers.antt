@@ -1,0 +1,58 @@
+-- By the refusals, in their order; then driven.
+use borrow.Author.Rules.{rules}
+use mathlib.Core.Bool.{true}
+use mathlib.Core.Path.{◌≡◌, refl, sym, ◌∙◌}
+use native.Mathlib.Omega.{arith}
+use lib.ListN.{length}
+use borrow.Author.Tests.{eq-eqb, ne_eqb, not-true, not-false}
+use Rattle.dsp.specs.Fit.{fit}
+use Rattle.dsp.specs.Ticks.{drove, drive_of}
+use Rattle.dsp.proofs.Fits.{fit_facts, facts_fit}
+use Rattle.dsp.proofs.registers.Dsp.ticks.Goals as goal
+
+pub returns-then-ram-ne-RAM_SIZE : goal.returns-then-ram-ne-RAM_SIZE
+unfolding drive_of
+returns-then-ram-ne-RAM_SIZE c = rw (ne_eqb _ _ c.if-ram-ne-RAM_SIZE.true, c.refused.ensures.0, c.refused.ensures.1) (refl, refl)
+
+pub returns-then-not-is_fit : goal.returns-then-not-is_fit
+unfolding drive_of
+returns-then-not-is_fit c =
+    let sized : length c.args.ram.now ≡ 0x10000 = (omega arith) in
+    let e = sym c.is_fit.ensures ∙ c.if-not-is_fit.true in
+    rw (c.refused-then-not-is_fit.ensures.0, c.refused-then-not-is_fit.ensures.1, eq-eqb _ _ sized, e) (refl, refl)
+
+pub returns-then-pcm-n : goal.returns-then-pcm-n
+unfolding drive_of
+returns-then-pcm-n c =
+    let sized : length c.args.ram.now ≡ 0x10000 = (omega arith) in
+    let fitting : fit c.args.self ≡ true = (sym c.is_fit.ensures ∙ c.if-not-is_fit.false) in
+    let fit = c in
+    rw (c.refused-then-pcm-n.ensures.0, c.refused-then-pcm-n.ensures.1, eq-eqb _ _ (sized fit), fitting fit, ne_eqb _ _ c.if-pcm-n.true) (refl, refl)
+
+pub returns-then-sheet-n : goal.returns-then-sheet-n
+unfolding drive_of
+returns-then-sheet-n c =
+    let sized : length c.args.ram.now ≡ 0x10000 = (omega arith) in
+    let fitting : fit c.args.self ≡ true = (sym c.is_fit.ensures ∙ c.if-not-is_fit.false) in
+    let pcm = c in
+    rw (c.refused-then-sheet-n.ensures.0, c.refused-then-sheet-n.ensures.1, eq-eqb _ _ (sized pcm), fitting pcm, eq-eqb _ _ pcm.if-pcm-n.false, ne_eqb _ _ c.if-sheet-n.true)
+    (refl, refl)
+
+pub driven-d-requires : goal.driven-d-requires
+driven-d-requires c =
+    let sized : length c.args.ram.now ≡ 0x10000 = (omega arith) in
+    let fitting : fit c.args.self ≡ true = (sym c.is_fit.ensures ∙ c.if-not-is_fit.false) in
+    let sheet = c in
+    let fit = sheet in
+    (sized fit, fit_facts _ (fitting fit), omega (arith, fit.ranges.count.fits), sheet.if-pcm-n.false, sheet.if-sheet-n.false)
+
+pub returns : goal.returns
+unfolding drive_of
+returns c =
+    let sized : length c.args.ram.now ≡ 0x10000 = (omega arith) in
+    let fitting : fit c.args.self ≡ true = (sym c.is_fit.ensures ∙ c.if-not-is_fit.false) in
+    let drive = c in
+    let sheet = drive in
+    let f = fitting sheet in
+    let d = drive.driven-d.ensures in
+    (rw (eq-eqb _ _ (sized sheet), f, eq-eqb _ _ sheet.if-pcm-n.false, eq-eqb _ _ sheet.if-sheet-n.false) (λ i. drove (d.0 i)), facts_fit _ d.1 ∙ sym f)

@@ -1,0 +1,28 @@
+-- After n voices the first n of the list are those that the arrays stand for.
+use borrow.Author.Rules.{rules}
+use mathlib.Core.List.{List, [], ◌∷◌, ◌++◌}
+use mathlib.Core.Path.{◌≡◌, refl, ap, ◌∙◌}
+use Prim.Native.Nat.{ℕ, ◌+◌, ◌-◌, ◌*◌, ◌≤◌}
+use native.Mathlib.Omega.{arith}
+use native.Mathlib.Numerals.{add-one}
+use lib.IntN.{ℤ, pos}
+use lib.ListN.{get_or, length, take, drop}
+use mir.Syntax.{w16}
+use Rattle.numbers.proofs.Range.{landed}
+use Rattle.numbers.specs.Listed.{listed}
+use Rattle.numbers.proofs.Parts.{Written, unwritten, stored, all_written}
+use Rattle.dsp.specs.Inside.{as_voice, no_dial, no_envelope, no_play, no_feed, samples_at, voices_in}
+use Rattle.dsp.specs.declared.adsr.Envelope.{Envelope}
+use Rattle.dsp.specs.declared.lane.Dial.{Dial}
+use Rattle.dsp.specs.declared.play.Play.{Play}
+use Rattle.dsp.specs.declared.play.Feed.{Feed}
+use Rattle.dsp.specs.declared.voice.Voice.{Voice}
+use Rattle.dsp.proofs.Store.{samples-length, part_span}
+use Rattle.dsp.proofs.tick.voices_of.Given as goal
+
+abbrev pub invariant-loop-n : goal.invariant-loop-n
+invariant-loop-n l =
+    (l.n ≤ 8) × (length l.initial.r ≡ 8) × Written l.initial.r l.r l.n (listed (voice_in l.dials l.envelopes l.plays l.feeds l.currents l.store) l.n)
+
+abbrev pub decreases-loop-n : goal.decreases-loop-n
+decreases-loop-n l = 8 - l.n

@@ -1,0 +1,6 @@
+-- Both parts are new.
+use borrow.Author.Rules.{rules}
+use Rattle.dsp.proofs.voice.Voice.new.Goals as goal
+
+pub returns : goal.returns
+returns c = rw (c.new-adsr.ensures, c.new-brr.ensures)
