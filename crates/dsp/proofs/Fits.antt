@@ -13,7 +13,7 @@ use Rattle.numbers.proofs.Turns.{set_keeps}
 use Rattle.numbers.proofs.Lists.{map_both, all-at, all_holds}
 use Rattle.dsp.specs.Machine.{Globals, no_voice, globals_of}
 use Rattle.dsp.specs.PowerOn.{new_dsp}
-use Rattle.dsp.specs.Fit.{Clause, ◌at-most◌, ◌below◌, ◌is◌, ◌multiple-of◌, ◌or◌, adsr_rule, brr_rule, voice_rule, delay_rule, globals_rule, test, meets, fit, Fact, Facts, FitAdsr, FitBrr, FitVoice, FitGlobals, Fit}
+use Rattle.dsp.specs.Fit.{Clause, ◌at_most◌, ◌below◌, ◌is◌, ◌multiple_of◌, ◌or◌, adsr_rule, brr_rule, voice_rule, delay_rule, globals_rule, test, meets, fit, Fact, Facts, FitAdsr, FitBrr, FitVoice, FitGlobals, Fit}
 use Rattle.dsp.specs.Keys.{silenced}
 use Rattle.dsp.specs.Registers.{write_voice, resets, globals_after, write_parts, write_at}
 use Rattle.dsp.specs.declared.voice.Voice.{Voice}
@@ -26,7 +26,7 @@ clause : (c : Clause) → Decides (test c) (Fact c)
 clause (a at_most b) = le a b
 clause (a below b) = lt a b
 clause (a is b) = eq a b
-clause (a multiple-of b) = eq (a % b) 0
+clause (a multiple_of b) = eq (a % b) 0
 clause (c or d) = clause c otherwise clause d
 
 pub rule : (cs : List Clause) → Decides (meets cs) (Facts cs)

@@ -9,10 +9,10 @@ use Rattle.dsp.specs.declared.brr.Brr.{Brr}
 use Rattle.dsp.specs.declared.voice.Voice.{Voice}
 use Rattle.dsp.specs.declared.registers.Dsp.{Dsp}
 
-infix 40 ◌at-most◌ ◌below◌ ◌is◌ ◌multiple-of◌
+infix 40 ◌at_most◌ ◌below◌ ◌is◌ ◌multiple_of◌
 infixl 30 ◌or◌
 pub data Clause : Type 0 where
-  ◌at-most◌ ◌below◌ ◌is◌ ◌multiple-of◌ : ℕ → ℕ → Clause
+  ◌at_most◌ ◌below◌ ◌is◌ ◌multiple_of◌ : ℕ → ℕ → Clause
   ◌or◌ : Clause → Clause → Clause
 
 -- ---- the rule
@@ -41,11 +41,11 @@ globals_rule g =
     (g.noise.counter at_most 2047)
     ∷ (g.noise.lfsr at_most 0x7FFF)
     ∷ (g.edl at_most 15)
-    ∷ (g.pmon multiple-of 2)
-    ∷ (g.echo_len multiple-of 2048)
+    ∷ (g.pmon multiple_of 2)
+    ∷ (g.echo_len multiple_of 2048)
     ∷ (g.echo_len at_most 30720)
-    ∷ (g.echo_ptr multiple-of 4)
-    ∷ (g.echo_ptr is 0 or (g.echo_ptr below g).echo_len)
+    ∷ (g.echo_ptr multiple_of 4)
+    ∷ (g.echo_ptr is 0 or g.echo_ptr below g.echo_len)
     ∷ []
 
 -- ---- the test
@@ -54,7 +54,7 @@ abbrev pub test : Clause → Bool
 test (a at_most b) = a ≤? b
 test (a below b) = a <? b
 test (a is b) = a =? b
-test (a multiple-of b) = a % b =? 0
+test (a multiple_of b) = a % b =? 0
 test (c or d) = test c || test d
 
 abbrev pub meets : List Clause → Bool
@@ -70,7 +70,7 @@ abbrev pub Fact : Clause → Type 0
 Fact (a at_most b) = a ≤ b
 Fact (a below b) = a < b
 Fact (a is b) = a ≡ b
-Fact (a multiple-of b) = a % b ≡ 0
+Fact (a multiple_of b) = a % b ≡ 0
 Fact (c or d) = Fact c ⊎ Fact d
 
 abbrev pub Facts : List Clause → Type 0

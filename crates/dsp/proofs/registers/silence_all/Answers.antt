@@ -11,10 +11,8 @@ use Rattle.numbers.proofs.Turns.{mapped_turns}
 use Rattle.dsp.specs.Machine.{no_voice}
 use Rattle.dsp.specs.Keys.{silenced}
 use Rattle.dsp.specs.declared.voice.Voice.{Voice}
+use Rattle.dsp.proofs.registers.silence_all.Invariants.{silence_voice}
 use Rattle.dsp.proofs.registers.silence_all.Goals as goal
-
-abbrev silence_voice : ℕ → List Voice → List Voice
-silence_voice n vs = set vs n (silenced (get_or vs n no_voice))
 
 pub loop-n-init : goal.loop-n-init
 unfolding turns

@@ -13,6 +13,9 @@ use Rattle.dsp.specs.Keys.{silenced}
 use Rattle.dsp.specs.declared.voice.Voice.{Voice}
 use Rattle.dsp.proofs.registers.silence_all.Given as goal
 
+abbrev pub silence_voice : ℕ → List Voice → List Voice
+silence_voice n vs = set vs n (silenced (get_or vs n no_voice))
+
 abbrev pub invariant-loop-n : goal.invariant-loop-n
 invariant-loop-n l = (l.n ≤ 8) × (l.vs ≡ turns silence_voice l.n l.initial.vs)
 

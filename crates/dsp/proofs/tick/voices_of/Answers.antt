@@ -18,11 +18,8 @@ use Rattle.dsp.specs.declared.play.Play.{Play}
 use Rattle.dsp.specs.declared.play.Feed.{Feed}
 use Rattle.dsp.specs.declared.voice.Voice.{Voice}
 use Rattle.dsp.proofs.Store.{samples-length, part_span}
+use Rattle.dsp.proofs.tick.voices_of.Invariants.{voice_in}
 use Rattle.dsp.proofs.tick.voices_of.Goals as goal
-
-abbrev voice_in : List Dial → List Envelope → List Play → List Feed → List ℤ → List ℤ → ℕ → Voice
-voice_in dials envelopes plays feeds currents store j =
-    as_voice (get_or dials j no_dial) (get_or envelopes j no_envelope) (get_or plays j no_play) (get_or feeds j no_feed) (get_or currents j (pos 0)) (samples_at j store)
 
 listed_more : {A : Type 0} (f : ℕ → A) (n : ℕ) (v : A) → v ≡ f n → listed f (n + 1) ≡ listed f n ++ (v ∷ [])
 unfolding listed

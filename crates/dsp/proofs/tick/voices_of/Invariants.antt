@@ -20,6 +20,10 @@ use Rattle.dsp.specs.declared.voice.Voice.{Voice}
 use Rattle.dsp.proofs.Store.{samples-length, part_span}
 use Rattle.dsp.proofs.tick.voices_of.Given as goal
 
+abbrev pub voice_in : List Dial → List Envelope → List Play → List Feed → List ℤ → List ℤ → ℕ → Voice
+voice_in dials envelopes plays feeds currents store j =
+    as_voice (get_or dials j no_dial) (get_or envelopes j no_envelope) (get_or plays j no_play) (get_or feeds j no_feed) (get_or currents j (pos 0)) (samples_at j store)
+
 abbrev pub invariant-loop-n : goal.invariant-loop-n
 invariant-loop-n l =
     (l.n ≤ 8) × (length l.initial.r ≡ 8) × Written l.initial.r l.r l.n (listed (voice_in l.dials l.envelopes l.plays l.feeds l.currents l.store) l.n)

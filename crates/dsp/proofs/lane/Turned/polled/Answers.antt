@@ -42,10 +42,9 @@ returns-then-bit c =
     let addr = f.0 ∙ ap (λ (n : ℕ). wrapped (entry_of a.c.dir_base n)) (sym e) in
     λ i. moved v (p.0 i) (p.2 i) (pos 0) (p.3 i) (c.begun-envelope.ensures v.adsr i)
     (record { addr = addr i; nibble_idx = p.1 i; prev1 = f.2 i; prev2 = f.3 i; block_end = f.4 i; sample_buffer = samples; buffer_fill = f.1 i })) in
-    let s = c in
-    let a = s.args in
-    let kon = sym (rw (mod-eq_of_lt s.requires.3) at c.bit.ensures) ∙ c.if-bit.true in
-    let here = get_or-set_same a.currents.now a.j (pos 0) (pos 0) (omega (arith, s.requires.0, s.requires.3)) in (
+    let a = c.args in
+    let kon = sym (rw (mod-eq_of_lt c.requires.3) at c.bit.ensures) ∙ c.if-bit.true in
+    let here = get_or-set_same a.currents.now a.j (pos 0) (pos 0) (omega (arith, c.requires.0, c.requires.3)) in (
       λ v samples endx e. rw (kon, on_over_off, here) (ap (sounding false) (anew v _ samples e)),
       rw kon,
       rw kon,
@@ -54,9 +53,8 @@ returns-then-bit c =
 
 pub returns-then-off : goal.returns-then-off
 unfolding polled_of keyed_on keyed_off
-returns-then-off c = let s = c in
-    let a = s.args in
-    let kon = sym (rw (mod-eq_of_lt s.requires.3) at c.bit.ensures) ∙ c.if-bit.false in
+returns-then-off c = let a = c.args in
+    let kon = sym (rw (mod-eq_of_lt c.requires.3) at c.bit.ensures) ∙ c.if-bit.false in
     let off = sym c.off.ensures ∙ c.if-off.true in (
       λ v samples endx e. rw (kon, off, and-false),
       rw kon,
@@ -66,10 +64,9 @@ returns-then-off c = let s = c in
 
 pub returns-else-off : goal.returns-else-off
 unfolding polled_of keyed_on keyed_off
-returns-else-off c = let s = c in
-    let a = s.args in
-    let kon = sym (rw (mod-eq_of_lt s.requires.3) at c.bit.ensures) ∙ c.if-bit.false in
-    let koff = rw (kon, or-false) at s.requires.4 in
+returns-else-off c = let a = c.args in
+    let kon = sym (rw (mod-eq_of_lt c.requires.3) at c.bit.ensures) ∙ c.if-bit.false in
+    let koff = rw (kon, or-false) at c.requires.4 in
     let off = sym c.off.ensures ∙ c.if-off.false in
     let p = c.keyed_off-play.ensures in
     let x = get_or a.currents.now a.j (pos 0) in (

@@ -15,10 +15,6 @@ use Rattle.dsp.proofs.Pitch.{position_least}
 use Rattle.dsp.proofs.Plays.{pitched, Sixteen, history_read, play-at, left_over}
 use Rattle.dsp.proofs.play.Play.advanced.Goals as goal
 
--- the samples that the position passes
-abbrev count : tie.After-position-of → ℕ
-count c = c.position-of.result / 0x1000 - c.before.before.args.self.pitch_counter % 0x4000 / 0x1000
-
 abbrev room : ℕ → ℕ → ℕ
 room fill index = if fill =? 0 then 0 else 16 - index
 
@@ -31,38 +27,39 @@ overflow_sub-n c = let a = c.args in
 pub heard-q-requires : goal.heard-q-requires
 heard-q-requires c =
     let room_is : c.if-fill-eq0.room ≡ room c.args.fill c.args.self.nibble_idx = (⊎_elim (λ w. w.1 ∙ rw (eq-eqb _ _ w.0.taken)) (λ w. w.2 ∙ rw (ne_eqb _ _ w.0.left)) c.if-fill-eq0.branch) in
-    let take-is : c.if-due.take ≡ least (count c) c.if-fill-eq0.room = (let n = count c in
+    let count : ℕ = (c.position_of-at.result / 0x1000 - c.args.self.pitch_counter % 0x4000 / 0x1000) in
+    let take-is : c.if-due.take ≡ least count c.if-fill-eq0.room = (let n = count in
     let r = c.if-fill-eq0.room in
     ⊎_elim (λ w. w.1 ∙ sym (least_top n r (leb-true r n w.0.taken))) (λ w. let l : n ≤ r = omega (arith, leb-false r n w.0.left) in w.1 ∙ rw (le-leb n r l)) c.if-due.branch) in
-    let take_le : (c.if-due.take ≤ count c) × (c.if-due.take ≤ c.if-fill-eq0.room) = (let h = least-both (count c) c.if-fill-eq0.room in rw take-is (h.0, h.1)) in
-    let s = c in
-    let k = s.args.self.nibble_idx in
-    let p = s.requires in
-    let l : room s.args.fill k ≤ 16 - k = chosen (λ (m : ℕ). m ≤ 16 - k) (s.args.fill =? 0) (omega arith) (omega arith) in
+    let take_le : (c.if-due.take ≤ count) × (c.if-due.take ≤ c.if-fill-eq0.room) = (let h = least-both count c.if-fill-eq0.room in rw take-is (h.0, h.1)) in
+    let k = c.args.self.nibble_idx in
+    let p = c.requires in
+    let l : room c.args.fill k ≤ 16 - k = chosen (λ (m : ℕ). m ≤ 16 - k) (c.args.fill =? 0) (omega arith) (omega arith) in
     (p.0, omega (arith, take_le.1, room_is))
 
 pub overflow_sub-result : goal.overflow_sub-result
 overflow_sub-result c =
-    let take-is : c.if-due.take ≡ least (count c) c.if-fill-eq0.room = (let n = count c in
+    let count : ℕ = (c.position_of-at.result / 0x1000 - c.args.self.pitch_counter % 0x4000 / 0x1000) in
+    let take-is : c.if-due.take ≡ least count c.if-fill-eq0.room = (let n = count in
     let r = c.if-fill-eq0.room in
     ⊎_elim (λ w. w.1 ∙ sym (least_top n r (leb-true r n w.0.taken))) (λ w. let l : n ≤ r = omega (arith, leb-false r n w.0.left) in w.1 ∙ rw (le-leb n r l)) c.if-due.branch) in
-    let take_le : (c.if-due.take ≤ count c) × (c.if-due.take ≤ c.if-fill-eq0.room) = (let h = least-both (count c) c.if-fill-eq0.room in rw take-is (h.0, h.1)) in
+    let take_le : (c.if-due.take ≤ count) × (c.if-due.take ≤ c.if-fill-eq0.room) = (let h = least-both count c.if-fill-eq0.room in rw take-is (h.0, h.1)) in
     take_le.0
 
 pub returns : goal.returns
 unfolding samples_taken
 returns c v e f endx pitch fill =
     let sixteen : Sixteen c.args.self = (search rules) in
+    let count : ℕ = (c.position_of-at.result / 0x1000 - c.args.self.pitch_counter % 0x4000 / 0x1000) in
     let room_is : c.if-fill-eq0.room ≡ room c.args.fill c.args.self.nibble_idx = (⊎_elim (λ w. w.1 ∙ rw (eq-eqb _ _ w.0.taken)) (λ w. w.2 ∙ rw (ne_eqb _ _ w.0.left)) c.if-fill-eq0.branch) in
-    let take-is : c.if-due.take ≡ least (count c) c.if-fill-eq0.room = (let n = count c in
+    let take-is : c.if-due.take ≡ least count c.if-fill-eq0.room = (let n = count in
     let r = c.if-fill-eq0.room in
     ⊎_elim (λ w. w.1 ∙ sym (least_top n r (leb-true r n w.0.taken))) (λ w. let l : n ≤ r = omega (arith, leb-false r n w.0.left) in w.1 ∙ rw (le-leb n r l)) c.if-due.branch) in
-    let b = c in
-    let a = b.args in
+    let a = c.args in
     let x = as_source a.source in
     let s = as_sounding v e a.self f a.samples.now endx in
-    let t = b.position_of-at.ensures s.voice pitch refl in
-    let n : count b ≡ samples_taken x s.voice = λ i. t i / 0x1000 - a.self.pitch_counter % 0x4000 / 0x1000 in
+    let t = c.position_of-at.ensures s.voice pitch refl in
+    let n : count ≡ samples_taken x s.voice = λ i. t i / 0x1000 - a.self.pitch_counter % 0x4000 / 0x1000 in
     let r : c.if-fill-eq0.room ≡ room_of s = room_is ∙ (λ i. room (sym fill i) a.self.nibble_idx) in
     let g = take-is ∙ (λ i. least (n i) (r i)) in
     let h = history_read a.self sixteen in

@@ -12,30 +12,10 @@ use Rattle.dsp.proofs.registers.Dsp.driven.Goals as goal
 
 -- ---- the record apart
 
-abbrev begun : tie.After-feeds-of → tie.Start
-begun c = c.before.before.before.before.before.before.before.before.before.before.before.before.before.before.before.before.before
-
-abbrev inArrays : tie.After-feeds-of → Parts
-inArrays c =
-    let far = c.before.before.before in
-    let dials = far.before in
-    let store = dials.before.before in
-    let currents = store.before in
-    let delays = currents.before in
-    parts_in (record { far = far.far.result; envelopes = c.before.before.envelopes-of.result; plays = c.before.plays-of.result; feeds = c.feeds-of.result })
-    dials.dials-of.result
-    delays.before.before.before.taps.result
-    currents.currents-of.result
-    delays.delays.result
-    store.store_of.result
-    delays.before.before.bytes.result
-
 -- ---- the record made again
 
 pub dials_of-dials-requires : goal.dials_of-dials-requires
-dials_of-dials-requires c = let lanes = c in
-    let rates = lanes in
-    (rates.rate_table-rates.ensures, λ j. rw lanes.lanes-voices.ensures (rates.requires.1.voices j))
+dials_of-dials-requires c = (c.rate_table-rates.ensures, λ j. rw c.lanes-voices.ensures (c.requires.1.voices j))
 
 pub slice_bounds-drive-end : goal.slice_bounds-drive-end
 slice_bounds-drive-end c = sym c.gauss_table-table.type_inv.1.0.1
@@ -48,76 +28,69 @@ slice_bounds-drive-end-6 c = sym c.bytes-bytes.type_inv.1.0.1
 
 pub drive-k-requires : goal.drive-k-requires
 drive-k-requires c =
-    let taken : inArrays c ≡ apart (begun c).args.self = (let far = c in
-    let dials = far in
-    let store = dials in
-    let currents = store in
-    let delays = currents in
-    let lanes = delays.lanes-voices in
+    let inArrays : Parts = (parts_in (record { c = c.far-far.result; envelopes = c.envelopes_of-envelopes.result; plays = c.plays_of-plays.result; feeds = c.feeds_of-feeds.result })
+    c.dials_of-dials.result
+    c.taps-taps.result
+    c.currents_of-currents.result
+    c.delays-delays.result
+    c.store_of-store.result
+    c.bytes-bytes.result) in
+    let taken : inArrays ≡ apart c.args.self = (let lanes = c.lanes-voices in
     let voices =
-    (λ i. voices_in (dials.dials_of-dials.ensures i) (c.envelopes_of-envelopes.ensures i) (c.plays_of-plays.ensures i) (c.feeds_of-feeds.ensures i) (currents.currents_of-currents.ensures i) store.store_of-store.result)
-    ∙ voices-again lanes.result lanes.type_inv.1.0.1 store.store_of-store.result (histories lanes.result _ lanes.type_inv.1.1) store.store_of-store.ensures
+    (λ i. voices_in (c.dials_of-dials.ensures i) (c.envelopes_of-envelopes.ensures i) (c.plays_of-plays.ensures i) (c.feeds_of-feeds.ensures i) (c.currents_of-currents.ensures i) c.store_of-store.result)
+    ∙ voices-again lanes.result lanes.type_inv.1.0.1 c.store_of-store.result (histories lanes.result _ lanes.type_inv.1.1) c.store_of-store.ensures
     ∙ lanes.ensures in
     λ i.
     record {
-      registers = delays.bytes-bytes.ensures i;
+      registers = c.bytes-bytes.ensures i;
       voices = voices i;
-      delays = delays.delays-delays.ensures i;
-      taps = delays.taps-taps.ensures i;
-      left = far.far-far.ensures.1 i;
-      right = far.far-far.ensures.2 i;
-      globals = far.far-far.ensures.0 i;
-    }) in
-    let feeds = c in
-    let dials = feeds in
-    let store = dials in
-    let currents = store in
-    let delays = currents in
-    let lanes = delays in
-    let bytes = lanes in
-    let rates = bytes in
-    let s = begun feeds in (
-      rates.gauss_table-table.ensures,
-      rates.rate_table-rates.ensures,
-      currents.currents_of-currents.type_inv.1.0.1,
-      delays.delays-delays.type_inv.1.0.1,
-      store.store_of-store.type_inv.1.0.1,
-      bytes.bytes-bytes.type_inv.1.0.1,
-      s.pre.0,
-      s.pre.2,
-      s.pre.3,
-      s.pre.4,
-      λ j l. rw dials.dials_of-dials.ensures (dials_wound lanes.lanes-voices.result lanes.lanes-voices.type_inv.1.0.1 j l),
-      subst (λ (p : Parts). Fit (together p)) (sym (taken feeds)) s.pre.1,
+      c = c.delays-delays.ensures i;
+      taps = c.taps-taps.ensures i;
+      left = c.far-far.ensures.1 i;
+      right = c.far-far.ensures.2 i;
+      globals = c.far-far.ensures.0 i;
+    }) in (
+      c.gauss_table-table.ensures,
+      c.rate_table-rates.ensures,
+      c.currents_of-currents.type_inv.1.0.1,
+      c.delays-delays.type_inv.1.0.1,
+      c.store_of-store.type_inv.1.0.1,
+      c.bytes-bytes.type_inv.1.0.1,
+      c.requires.0,
+      c.requires.2,
+      c.requires.3,
+      c.requires.4,
+      λ j l. rw c.dials_of-dials.ensures (dials_wound c.lanes-voices.result c.lanes-voices.type_inv.1.0.1 j l),
+      subst (λ (p : Parts). Fit (together p)) (sym taken) c.requires.1,
     )
 
 pub returns : goal.returns
 returns c =
-    let taken : inArrays c ≡ apart (begun c).args.self = (let far = c in
-    let dials = far in
-    let store = dials in
-    let currents = store in
-    let delays = currents in
-    let lanes = delays.lanes-voices in
+    let inArrays : Parts = (parts_in (record { c = c.far-far.result; envelopes = c.envelopes_of-envelopes.result; plays = c.plays_of-plays.result; feeds = c.feeds_of-feeds.result })
+    c.dials_of-dials.result
+    c.taps-taps.result
+    c.currents_of-currents.result
+    c.delays-delays.result
+    c.store_of-store.result
+    c.bytes-bytes.result) in
+    let taken : inArrays ≡ apart c.args.self = (let lanes = c.lanes-voices in
     let voices =
-    (λ i. voices_in (dials.dials_of-dials.ensures i) (c.envelopes_of-envelopes.ensures i) (c.plays_of-plays.ensures i) (c.feeds_of-feeds.ensures i) (currents.currents_of-currents.ensures i) store.store_of-store.result)
-    ∙ voices-again lanes.result lanes.type_inv.1.0.1 store.store_of-store.result (histories lanes.result _ lanes.type_inv.1.1) store.store_of-store.ensures
+    (λ i. voices_in (c.dials_of-dials.ensures i) (c.envelopes_of-envelopes.ensures i) (c.plays_of-plays.ensures i) (c.feeds_of-feeds.ensures i) (c.currents_of-currents.ensures i) c.store_of-store.result)
+    ∙ voices-again lanes.result lanes.type_inv.1.0.1 c.store_of-store.result (histories lanes.result _ lanes.type_inv.1.1) c.store_of-store.ensures
     ∙ lanes.ensures in
     λ i.
     record {
-      registers = delays.bytes-bytes.ensures i;
+      registers = c.bytes-bytes.ensures i;
       voices = voices i;
-      delays = delays.delays-delays.ensures i;
-      taps = delays.taps-taps.ensures i;
-      left = far.far-far.ensures.1 i;
-      right = far.far-far.ensures.2 i;
-      globals = far.far-far.ensures.0 i;
+      c = c.delays-delays.ensures i;
+      taps = c.taps-taps.ensures i;
+      left = c.far-far.ensures.1 i;
+      right = c.far-far.ensures.2 i;
+      globals = c.far-far.ensures.0 i;
     }) in
-    let drive = c in
-    let feeds = drive in
-    let a = (begun feeds).args in
-    let k = drive.drive-k.result in
-    let d = drive.drive-k.ensures.0 in
+    let a = c.args in
+    let k = c.drive-k.result in
+    let d = c.drive-k.ensures.0 in
     let made : c.with_parts.result ≡ together (d 0).parts =
     c.with_parts.ensures
     ∙ (λ i.
@@ -133,6 +106,6 @@ returns c =
     })) in (
       (λ i. record { parts = apart (made i); ram = (d 0).ram; pcm = (d 0).pcm; sheet = (d 0).sheet; old = [] })
           ∙ d
-          ∙ (λ i. ticks_of a.work a.n (record { parts = taken feeds i; ram = a.ram.now; pcm = []; sheet = []; old = a.sheet.now })),
-      subst (λ (x : Dsp). Fit x) (sym made) drive.drive-k.ensures.1,
+          ∙ (λ i. ticks_of a.work a.n (record { parts = taken i; ram = a.ram.now; pcm = []; sheet = []; old = a.sheet.now })),
+      subst (λ (x : Dsp). Fit x) (sym made) c.drive-k.ensures.1,
     )

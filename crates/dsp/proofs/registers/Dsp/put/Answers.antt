@@ -27,8 +27,7 @@ returns-then-idx-value c =
     c.with_glob-d.ensures
     ∙ ap (with_globals (s c.byte_left.result)) (c.write-h.ensures ∙ ap (globals_after a.idx a.value) c.glob-g.ensures)
     ∙ (λ k. globals_written a.idx a.value (s (c.byte_left.ensures k)))) in
-    let w = c in
-    rw c.silence_all-cut.ensures (ap reset (written w) ∙ sym (reset_write _ _ _ w.if-off-lt8.false w.if-off-eq15.false (reset_is w ∙ c.if-idx-value.true)))
+    rw c.silence_all-cut.ensures (ap reset written ∙ sym (reset_write _ _ _ c.if-off-lt8.false c.if-off-eq15.false (reset_is ∙ c.if-idx-value.true)))
 
 pub returns-else-idx-value : goal.returns-else-idx-value
 returns-else-idx-value c =
@@ -38,5 +37,4 @@ returns-else-idx-value c =
     c.with_glob-d.ensures
     ∙ ap (with_globals (s c.byte_left.result)) (c.write-h.ensures ∙ ap (globals_after a.idx a.value) c.glob-g.ensures)
     ∙ (λ k. globals_written a.idx a.value (s (c.byte_left.ensures k)))) in
-    let w = c in
-    written w ∙ sym (plain-write _ _ _ w.if-off-lt8.false w.if-off-eq15.false (reset_is w ∙ c.if-idx-value.false))
+    written ∙ sym (plain-write _ _ _ c.if-off-lt8.false c.if-off-eq15.false (reset_is ∙ c.if-idx-value.false))

@@ -13,10 +13,9 @@ dry-requires c = let f = fit_facts _ (sym c.is_fit.ensures ∙ c.if-is_fit.true)
 
 pub returns-then-is_fit : goal.returns-then-is_fit
 unfolding render_of
-returns-then-is_fit c = let s = c in
-    let m = c.mastered-s in
+returns-then-is_fit c = let m = c.mastered-s in
     let sides = c.struct_told-1.given in
-    rw (← s.is_fit.ensures, s.if-is_fit.true, ← s.glob-g.ensures, ← s.dry.ensures, ← m.ensures, landed w16 {z = m.result.l} sides.0.1, landed w16 {z = m.result.r} sides.1.0.1)
+    rw (← c.is_fit.ensures, c.if-is_fit.true, ← c.glob-g.ensures, ← c.dry.ensures, ← m.ensures, landed w16 {z = m.result.l} sides.0.1, landed w16 {z = m.result.r} sides.1.0.1)
 
 pub returns-else-is_fit : goal.returns-else-is_fit
 unfolding render_of

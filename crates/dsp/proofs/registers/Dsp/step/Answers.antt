@@ -18,18 +18,16 @@ returns-then-ram-ne-RAM_SIZE c = rw (ne_eqb _ _ c.if-ram-ne-RAM_SIZE.true, c.ref
 pub driven-d-requires : goal.driven-d-requires
 driven-d-requires c =
     let sized : length c.args.ram.now ≡ 0x10000 = (omega arith) in
-    let fit = c in
-    (sized fit, fit_facts _ (sym fit.is_fit.ensures ∙ fit.if-is_fit.true), omega arith, refl, refl)
+    (sized, fit_facts _ (sym c.is_fit.ensures ∙ c.if-is_fit.true), omega arith, refl, refl)
 
 pub returns-then-is_fit : goal.returns-then-is_fit
 unfolding step_of ticks_of bench_tick
 returns-then-is_fit c =
     let sized : length c.args.ram.now ≡ 0x10000 = (omega arith) in
-    let fit = c in
-    let a = fit.args in
+    let a = c.args in
     let d = c.driven-d.ensures.0 in
     let after : Bench → After = (λ (b : Bench). record { refusal = 0; dsp = together b.parts; ram = b.ram }) in
-    rw (eq-eqb _ _ (sized fit), ← fit.is_fit.ensures, fit.if-is_fit.true)
+    rw (eq-eqb _ _ sized, ← c.is_fit.ensures, c.if-is_fit.true)
     (◌∙◌ {b = after (d 1)} (λ i. after (d i)) (ap ticked (tick_whole _ [] (apart a.self) a.ram.now)))
 
 pub returns-else-is_fit : goal.returns-else-is_fit

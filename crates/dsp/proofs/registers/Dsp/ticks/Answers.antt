@@ -26,33 +26,27 @@ unfolding drive_of
 returns-then-pcm-n c =
     let sized : length c.args.ram.now ≡ 0x10000 = (omega arith) in
     let fitting : fit c.args.self ≡ true = (sym c.is_fit.ensures ∙ c.if-not-is_fit.false) in
-    let fit = c in
-    rw (c.refused-then-pcm-n.ensures.0, c.refused-then-pcm-n.ensures.1, eq-eqb _ _ (sized fit), fitting fit, ne_eqb _ _ c.if-pcm-n.true) (refl, refl)
+    rw (c.refused-then-pcm-n.ensures.0, c.refused-then-pcm-n.ensures.1, eq-eqb _ _ sized, fitting, ne_eqb _ _ c.if-pcm-n.true) (refl, refl)
 
 pub returns-then-sheet-n : goal.returns-then-sheet-n
 unfolding drive_of
 returns-then-sheet-n c =
     let sized : length c.args.ram.now ≡ 0x10000 = (omega arith) in
     let fitting : fit c.args.self ≡ true = (sym c.is_fit.ensures ∙ c.if-not-is_fit.false) in
-    let pcm = c in
-    rw (c.refused-then-sheet-n.ensures.0, c.refused-then-sheet-n.ensures.1, eq-eqb _ _ (sized pcm), fitting pcm, eq-eqb _ _ pcm.if-pcm-n.false, ne_eqb _ _ c.if-sheet-n.true)
+    rw (c.refused-then-sheet-n.ensures.0, c.refused-then-sheet-n.ensures.1, eq-eqb _ _ sized, fitting, eq-eqb _ _ c.if-pcm-n.false, ne_eqb _ _ c.if-sheet-n.true)
     (refl, refl)
 
 pub driven-d-requires : goal.driven-d-requires
 driven-d-requires c =
     let sized : length c.args.ram.now ≡ 0x10000 = (omega arith) in
     let fitting : fit c.args.self ≡ true = (sym c.is_fit.ensures ∙ c.if-not-is_fit.false) in
-    let sheet = c in
-    let fit = sheet in
-    (sized fit, fit_facts _ (fitting fit), omega (arith, fit.ranges.count.fits), sheet.if-pcm-n.false, sheet.if-sheet-n.false)
+    (sized, fit_facts _ fitting, omega (arith, c.ranges.count.fits), c.if-pcm-n.false, c.if-sheet-n.false)
 
 pub returns : goal.returns
 unfolding drive_of
 returns c =
     let sized : length c.args.ram.now ≡ 0x10000 = (omega arith) in
     let fitting : fit c.args.self ≡ true = (sym c.is_fit.ensures ∙ c.if-not-is_fit.false) in
-    let drive = c in
-    let sheet = drive in
-    let f = fitting sheet in
-    let d = drive.driven-d.ensures in
-    (rw (eq-eqb _ _ (sized sheet), f, eq-eqb _ _ sheet.if-pcm-n.false, eq-eqb _ _ sheet.if-sheet-n.false) (λ i. drove (d.0 i)), facts_fit _ d.1 ∙ sym f)
+    let f = fitting in
+    let d = c.driven-d.ensures in
+    (rw (eq-eqb _ _ sized, f, eq-eqb _ _ c.if-pcm-n.false, eq-eqb _ _ c.if-sheet-n.false) (λ i. drove (d.0 i)), facts_fit _ d.1 ∙ sym f)
