@@ -41,7 +41,7 @@ mapped_at f (x ∷ xs) d e zero h = refl
 mapped_at f (x ∷ xs) d e (suc k) h = mapped_at f xs d e k (omega arith)
 
 -- a voice of the language has a history of four samples; so has each of an array, as owning it says
-pub histories : (vs : List Voice) (us : List Val) → shadow (each Voice (row the_type).own vs us) → (k : ℕ) → k < length vs → length (get_or vs k no_voice).history ≡ 4
+pub histories : (vs : List Voice) (us : List Val) → shadow (each Voice (row the_type).own_val vs us) → (k : ℕ) → k < length vs → length (get_or vs k no_voice).history ≡ 4
 histories [] us p k l = absurd (omega arith)
 histories (v ∷ vs) [] p k l = absurd p
 histories (v ∷ vs) (u ∷ us) p zero l = let q = p.0 in search rules

@@ -1,7 +1,7 @@
 -- A tick that works every lane: it does not see the sheet that it found, and its sample is what `render_audio_single` gives after it.
 use mathlib.Core.Bool.{true}
 use mathlib.Core.List.{List}
-use mathlib.Core.Path.{◌≡◌, refl, ap, ◌∙◌}
+use mathlib.Core.Path.{sym, ◌≡◌, refl, ap, ◌∙◌}
 use Prim.Native.Nat.{ℕ, zero, suc, ◌≤◌, ◌<◌}
 use native.Mathlib.Omega.{arith}
 use borrow.Author.Count.{below_none, below_more}
@@ -54,7 +54,9 @@ dry-after old c ram (suc n) r l f e =
     let s = turns (turn 0xFF old c ram) n r in
     let g = fit-kept-turns 0xFF old c ram n r (omega arith) f in
     let y = (own_cell c ram n s.sums.prev (get_or s.voices n no_voice) (get_or s.delays n 0) s.bytes).voice in
-    rw (full n (omega arith), set_here no_voice s.voices n y (omega arith), dry-before s.voices y n, ← dry-after old c ram n r (omega arith) f e)
+    let before = sym (dry-before s.voices y n ∙ sym (dry-after old c ram n r (omega arith) f e)) in
+    let here = sym (set_here no_voice s.voices n y (omega arith)) in
+    rw (full n (omega arith)) (λ i. with_output (before i) (here i))
 
 -- the sample of a tick is the stereo sample of the record that it leaves
 pub tick_renders : (d : Dsp) (ram old : List ℕ) → length ram ≡ 0x10000 → length d.registers ≡ 128 → length d.voices ≡ 8 → length d.kon_delay ≡ 8 → Fit d

@@ -13,7 +13,7 @@ use Rattle.dsp.proofs.brr.decode_brr_block.Given as goal
 
 abbrev pub invariant-loop-i : goal.invariant-loop-i
 invariant-loop-i l =
-    (l.i ≤ 8) × UpTo l.ram l.addr (to_z w16 l.prev1) (to_z w16 l.prev2) (l.i * 2) l.samples (to_z w16 l.p1) (to_z w16 l.p2)
+    (l.i ≤ 8) × UpTo l.ram l.addr l.prev1 l.prev2 (l.i * 2) l.samples l.p1 l.p2
 
 abbrev pub decreases-loop-i : goal.decreases-loop-i
 decreases-loop-i l = 8 - l.i

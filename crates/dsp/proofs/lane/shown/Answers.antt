@@ -14,7 +14,7 @@ pub bounds-bytes-j-2 : goal.bounds-bytes-j-2
 bounds-bytes-j-2 c = rw length-set (omega (arith, c.requires.0, c.requires.2))
 
 pub shape_of-bytes : goal.shape_of-bytes
-shape_of-bytes c = c.put_endx.auto.0 ∙ simp length-set
+shape_of-bytes c = c.put_endx.auto.bytes ∙ simp length-set
 
 pub returns : goal.returns
 unfolding put_bytes

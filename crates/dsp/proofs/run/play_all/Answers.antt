@@ -49,7 +49,7 @@ loop-found-init c =
     let taken : parts_from c.dials_of-dials.result c.taps-taps.result in_arrays c.delays-delays.result c.bytes-bytes.result c.far-f.result ≡ apart c.args.start = (let lanes = c.lanes-voices in
     let voices =
     (λ i. voices_in (c.dials_of-dials.ensures i) (c.envelopes_of-envelopes.ensures i) (c.plays_of-plays.ensures i) (c.feeds_of-feeds.ensures i) (c.currents_of-currents.ensures i) c.store_of-store.result)
-    ∙ voices-again lanes.result lanes.ensures.1.0.1 c.store_of-store.result (histories lanes.result _ lanes.ensures.1.1) c.store_of-store.ensures
+    ∙ voices-again lanes.result lanes.type_inv.1.0.1 c.store_of-store.result (histories lanes.result _ lanes.type_inv.1.1) c.store_of-store.ensures
     ∙ lanes.ensures in
     λ i.
     record {
@@ -69,8 +69,8 @@ loop-found-init c =
       ram = c.requires.0;
       round =
           record {
-            bytes = subst (λ (l : List ℕ). length l ≡ 128) c.bytes-bytes.ensures c.bytes-bytes.ensures.1.0.1;
-            count = subst (λ (l : List Voice). length l ≡ 8) c.lanes-voices.ensures c.lanes-voices.ensures.1.0.1;
+            bytes = subst (λ (l : List ℕ). length l ≡ 128) c.bytes-bytes.ensures c.bytes-bytes.type_inv.1.0.1;
+            count = subst (λ (l : List Voice). length l ≡ 8) c.lanes-voices.ensures c.lanes-voices.type_inv.1.0.1;
             waits = subst (λ (l : List ℕ). length l ≡ 8) c.delays-delays.ensures c.delays-delays.type_inv.1.0.1;
             voices = h.voices;
             delays = h.delays;
@@ -80,8 +80,8 @@ loop-found-init c =
     record {
       sized = record { envelopes = c.envelopes_of-envelopes.type_inv.1.0.1; plays = c.plays_of-plays.type_inv.1.0.1; feeds = c.feeds_of-feeds.type_inv.1.0.1; currents = c.currents_of-currents.type_inv.1.0.1; store = c.store_of-store.type_inv.1.0.1 };
       count = c.dials_of-dials.type_inv.1.0.1;
-      eight = c.taps-taps.ensures.1.0.1;
-      wound = λ j l. rw c.dials_of-dials.ensures (dials_wound c.lanes-voices.result c.lanes-voices.ensures.1.0.1 j l);
+      eight = c.taps-taps.type_inv.1.0.1;
+      wound = λ j l. rw c.dials_of-dials.ensures (dials_wound c.lanes-voices.result c.lanes-voices.type_inv.1.0.1 j l);
       fit = subst (λ (y : Parts). BenchFit (bench_now y a.ram.now a.pcm.now a.sheet.now 0)) (sym p) fit;
       pcm-is = refl;
       sheet-is = refl;
@@ -116,13 +116,13 @@ put_byte-requires c =
     let Taken : Record → Type 0 = (λ r. let l = c.loop-found in
     Turned c.args.log.now l.at l.ticks l.said l.invariant.playing.here.f r c.in-On.behind
     × Known r × (l.ticks + ticks_in r ≤ 32000) × ((l.ticks + ticks_in r) * 4 ≤ length l.pcm) × ((l.ticks + ticks_in r) * 36 ≤ length l.sheet) × (l.said + readings_in r ≤ length l.readings)) in
-    let taking : {r : Record} → c.in-On.found ≡ r → Taken r = (λ e. let l = c.loop-found in
+    let taking : (r : Record) → c.in-On.found ≡ r → Taken r = (λ r e. let l = c.loop-found in
     let i = l.invariant in
     let p = c.requires.2 in
     let t = turned i.playing.here c.read.ensures.0 p.all c.in-On.is c.read.ensures.1 in
     let m = room l.pcm l.sheet l.readings p i.pcm-is i.sheet-is i.readings-is t in
     subst Taken e (t, m.0, m.1, m.2, m.3, m.4)) in
-    let wrote : Taken (Write c.in-Write.register c.in-Write.value) = (taking c.in-Write.is) in
+    let wrote : Taken (Write c.in-Write.register c.in-Write.value) = (taking _ c.in-Write.is) in
     let i = c.loop-found.invariant in (wrote.1, i.fit.round.bytes, i.eight)
 
 pub bounds-dials-v : goal.bounds-dials-v
@@ -130,30 +130,30 @@ bounds-dials-v c =
     let Taken : Record → Type 0 = (λ r. let l = c.loop-found in
     Turned c.args.log.now l.at l.ticks l.said l.invariant.playing.here.f r c.in-On.behind
     × Known r × (l.ticks + ticks_in r ≤ 32000) × ((l.ticks + ticks_in r) * 4 ≤ length l.pcm) × ((l.ticks + ticks_in r) * 36 ≤ length l.sheet) × (l.said + readings_in r ≤ length l.readings)) in
-    let taking : {r : Record} → c.in-On.found ≡ r → Taken r = (λ e. let l = c.loop-found in
+    let taking : (r : Record) → c.in-On.found ≡ r → Taken r = (λ r e. let l = c.loop-found in
     let i = l.invariant in
     let p = c.requires.2 in
     let t = turned i.playing.here c.read.ensures.0 p.all c.in-On.is c.read.ensures.1 in
     let m = room l.pcm l.sheet l.readings p i.pcm-is i.sheet-is i.readings-is t in
     subst Taken e (t, m.0, m.1, m.2, m.3, m.4)) in
-    let wrote : Taken (Write c.in-Write.register c.in-Write.value) = (taking c.in-Write.is) in
+    let wrote : Taken (Write c.in-Write.register c.in-Write.value) = (taking _ c.in-Write.is) in
     let k = wrote.1 in omega (arith, k)
 
 pub slice_bounds-write-end : goal.slice_bounds-write-end
-slice_bounds-write-end c = sym c.rate_table-rates.ensures.1.0.1
+slice_bounds-write-end c = sym c.rate_table-rates.type_inv.1.0.1
 
 pub write-e-requires : goal.write-e-requires
 write-e-requires c =
     let Taken : Record → Type 0 = (λ r. let l = c.loop-found in
     Turned c.args.log.now l.at l.ticks l.said l.invariant.playing.here.f r c.in-On.behind
     × Known r × (l.ticks + ticks_in r ≤ 32000) × ((l.ticks + ticks_in r) * 4 ≤ length l.pcm) × ((l.ticks + ticks_in r) * 36 ≤ length l.sheet) × (l.said + readings_in r ≤ length l.readings)) in
-    let taking : {r : Record} → c.in-On.found ≡ r → Taken r = (λ e. let l = c.loop-found in
+    let taking : (r : Record) → c.in-On.found ≡ r → Taken r = (λ r e. let l = c.loop-found in
     let i = l.invariant in
     let p = c.requires.2 in
     let t = turned i.playing.here c.read.ensures.0 p.all c.in-On.is c.read.ensures.1 in
     let m = room l.pcm l.sheet l.readings p i.pcm-is i.sheet-is i.readings-is t in
     subst Taken e (t, m.0, m.1, m.2, m.3, m.4)) in
-    let wrote : Taken (Write c.in-Write.register c.in-Write.value) = (taking c.in-Write.is) in
+    let wrote : Taken (Write c.in-Write.register c.in-Write.value) = (taking _ c.in-Write.is) in
     let k = wrote.1 in
     (c.rate_table-rates.ensures, c.loop-found.invariant.wound (c.in-Write.register / 16) (omega (arith, k)))
 
@@ -162,13 +162,13 @@ bounds-dials-v-in-Write c =
     let Taken : Record → Type 0 = (λ r. let l = c.loop-found in
     Turned c.args.log.now l.at l.ticks l.said l.invariant.playing.here.f r c.in-On.behind
     × Known r × (l.ticks + ticks_in r ≤ 32000) × ((l.ticks + ticks_in r) * 4 ≤ length l.pcm) × ((l.ticks + ticks_in r) * 36 ≤ length l.sheet) × (l.said + readings_in r ≤ length l.readings)) in
-    let taking : {r : Record} → c.in-On.found ≡ r → Taken r = (λ e. let l = c.loop-found in
+    let taking : (r : Record) → c.in-On.found ≡ r → Taken r = (λ r e. let l = c.loop-found in
     let i = l.invariant in
     let p = c.requires.2 in
     let t = turned i.playing.here c.read.ensures.0 p.all c.in-On.is c.read.ensures.1 in
     let m = room l.pcm l.sheet l.readings p i.pcm-is i.sheet-is i.readings-is t in
     subst Taken e (t, m.0, m.1, m.2, m.3, m.4)) in
-    let wrote : Taken (Write c.in-Write.register c.in-Write.value) = (taking c.in-Write.is) in
+    let wrote : Taken (Write c.in-Write.register c.in-Write.value) = (taking _ c.in-Write.is) in
     let k = wrote.1 in omega (arith, k)
 
 pub overflow_mul-from : goal.overflow_mul-from
@@ -176,13 +176,13 @@ overflow_mul-from c =
     let Taken : Record → Type 0 = (λ r. let l = c.loop-found in
     Turned c.args.log.now l.at l.ticks l.said l.invariant.playing.here.f r c.in-On.behind
     × Known r × (l.ticks + ticks_in r ≤ 32000) × ((l.ticks + ticks_in r) * 4 ≤ length l.pcm) × ((l.ticks + ticks_in r) * 36 ≤ length l.sheet) × (l.said + readings_in r ≤ length l.readings)) in
-    let taking : {r : Record} → c.in-On.found ≡ r → Taken r = (λ e. let l = c.loop-found in
+    let taking : (r : Record) → c.in-On.found ≡ r → Taken r = (λ r e. let l = c.loop-found in
     let i = l.invariant in
     let p = c.requires.2 in
     let t = turned i.playing.here c.read.ensures.0 p.all c.in-On.is c.read.ensures.1 in
     let m = room l.pcm l.sheet l.readings p i.pcm-is i.sheet-is i.readings-is t in
     subst Taken e (t, m.0, m.1, m.2, m.3, m.4)) in
-    let ticking : Taken (Ticks c.in-Ticks.count) = (taking c.in-Ticks.is) in
+    let ticking : Taken (Ticks c.in-Ticks.count) = (taking _ c.in-Ticks.is) in
     let fitting : (let l = c.loop-found in let n = c.in-Ticks.count in (l.ticks + n ≤ 32000) × (l.ticks * 4 + n * 4 ≤ length l.pcm) × (l.ticks * 36 + n * 36 ≤ length l.sheet)) = (let m = ticking in (m.2, omega (arith, m.3), omega (arith, m.4))) in
     let m = fitting in record { fits = omega (arith, m.0) }
 
@@ -191,13 +191,13 @@ overflow_mul-to c =
     let Taken : Record → Type 0 = (λ r. let l = c.loop-found in
     Turned c.args.log.now l.at l.ticks l.said l.invariant.playing.here.f r c.in-On.behind
     × Known r × (l.ticks + ticks_in r ≤ 32000) × ((l.ticks + ticks_in r) * 4 ≤ length l.pcm) × ((l.ticks + ticks_in r) * 36 ≤ length l.sheet) × (l.said + readings_in r ≤ length l.readings)) in
-    let taking : {r : Record} → c.in-On.found ≡ r → Taken r = (λ e. let l = c.loop-found in
+    let taking : (r : Record) → c.in-On.found ≡ r → Taken r = (λ r e. let l = c.loop-found in
     let i = l.invariant in
     let p = c.requires.2 in
     let t = turned i.playing.here c.read.ensures.0 p.all c.in-On.is c.read.ensures.1 in
     let m = room l.pcm l.sheet l.readings p i.pcm-is i.sheet-is i.readings-is t in
     subst Taken e (t, m.0, m.1, m.2, m.3, m.4)) in
-    let ticking : Taken (Ticks c.in-Ticks.count) = (taking c.in-Ticks.is) in
+    let ticking : Taken (Ticks c.in-Ticks.count) = (taking _ c.in-Ticks.is) in
     let fitting : (let l = c.loop-found in let n = c.in-Ticks.count in (l.ticks + n ≤ 32000) × (l.ticks * 4 + n * 4 ≤ length l.pcm) × (l.ticks * 36 + n * 36 ≤ length l.sheet)) = (let m = ticking in (m.2, omega (arith, m.3), omega (arith, m.4))) in
     let m = fitting in record { fits = omega (arith, m.0) }
 
@@ -206,13 +206,13 @@ overflow_add-to c =
     let Taken : Record → Type 0 = (λ r. let l = c.loop-found in
     Turned c.args.log.now l.at l.ticks l.said l.invariant.playing.here.f r c.in-On.behind
     × Known r × (l.ticks + ticks_in r ≤ 32000) × ((l.ticks + ticks_in r) * 4 ≤ length l.pcm) × ((l.ticks + ticks_in r) * 36 ≤ length l.sheet) × (l.said + readings_in r ≤ length l.readings)) in
-    let taking : {r : Record} → c.in-On.found ≡ r → Taken r = (λ e. let l = c.loop-found in
+    let taking : (r : Record) → c.in-On.found ≡ r → Taken r = (λ r e. let l = c.loop-found in
     let i = l.invariant in
     let p = c.requires.2 in
     let t = turned i.playing.here c.read.ensures.0 p.all c.in-On.is c.read.ensures.1 in
     let m = room l.pcm l.sheet l.readings p i.pcm-is i.sheet-is i.readings-is t in
     subst Taken e (t, m.0, m.1, m.2, m.3, m.4)) in
-    let ticking : Taken (Ticks c.in-Ticks.count) = (taking c.in-Ticks.is) in
+    let ticking : Taken (Ticks c.in-Ticks.count) = (taking _ c.in-Ticks.is) in
     let fitting : (let l = c.loop-found in let n = c.in-Ticks.count in (l.ticks + n ≤ 32000) × (l.ticks * 4 + n * 4 ≤ length l.pcm) × (l.ticks * 36 + n * 36 ≤ length l.sheet)) = (let m = ticking in (m.2, omega (arith, m.3), omega (arith, m.4))) in
     let m = fitting in record { fits = omega (arith, m.0) }
 
@@ -221,13 +221,13 @@ overflow_mul-row c =
     let Taken : Record → Type 0 = (λ r. let l = c.loop-found in
     Turned c.args.log.now l.at l.ticks l.said l.invariant.playing.here.f r c.in-On.behind
     × Known r × (l.ticks + ticks_in r ≤ 32000) × ((l.ticks + ticks_in r) * 4 ≤ length l.pcm) × ((l.ticks + ticks_in r) * 36 ≤ length l.sheet) × (l.said + readings_in r ≤ length l.readings)) in
-    let taking : {r : Record} → c.in-On.found ≡ r → Taken r = (λ e. let l = c.loop-found in
+    let taking : (r : Record) → c.in-On.found ≡ r → Taken r = (λ r e. let l = c.loop-found in
     let i = l.invariant in
     let p = c.requires.2 in
     let t = turned i.playing.here c.read.ensures.0 p.all c.in-On.is c.read.ensures.1 in
     let m = room l.pcm l.sheet l.readings p i.pcm-is i.sheet-is i.readings-is t in
     subst Taken e (t, m.0, m.1, m.2, m.3, m.4)) in
-    let ticking : Taken (Ticks c.in-Ticks.count) = (taking c.in-Ticks.is) in
+    let ticking : Taken (Ticks c.in-Ticks.count) = (taking _ c.in-Ticks.is) in
     let fitting : (let l = c.loop-found in let n = c.in-Ticks.count in (l.ticks + n ≤ 32000) × (l.ticks * 4 + n * 4 ≤ length l.pcm) × (l.ticks * 36 + n * 36 ≤ length l.sheet)) = (let m = ticking in (m.2, omega (arith, m.3), omega (arith, m.4))) in
     let m = fitting in record { fits = omega (arith, m.0) }
 
@@ -236,13 +236,13 @@ overflow_mul-end c =
     let Taken : Record → Type 0 = (λ r. let l = c.loop-found in
     Turned c.args.log.now l.at l.ticks l.said l.invariant.playing.here.f r c.in-On.behind
     × Known r × (l.ticks + ticks_in r ≤ 32000) × ((l.ticks + ticks_in r) * 4 ≤ length l.pcm) × ((l.ticks + ticks_in r) * 36 ≤ length l.sheet) × (l.said + readings_in r ≤ length l.readings)) in
-    let taking : {r : Record} → c.in-On.found ≡ r → Taken r = (λ e. let l = c.loop-found in
+    let taking : (r : Record) → c.in-On.found ≡ r → Taken r = (λ r e. let l = c.loop-found in
     let i = l.invariant in
     let p = c.requires.2 in
     let t = turned i.playing.here c.read.ensures.0 p.all c.in-On.is c.read.ensures.1 in
     let m = room l.pcm l.sheet l.readings p i.pcm-is i.sheet-is i.readings-is t in
     subst Taken e (t, m.0, m.1, m.2, m.3, m.4)) in
-    let ticking : Taken (Ticks c.in-Ticks.count) = (taking c.in-Ticks.is) in
+    let ticking : Taken (Ticks c.in-Ticks.count) = (taking _ c.in-Ticks.is) in
     let fitting : (let l = c.loop-found in let n = c.in-Ticks.count in (l.ticks + n ≤ 32000) × (l.ticks * 4 + n * 4 ≤ length l.pcm) × (l.ticks * 36 + n * 36 ≤ length l.sheet)) = (let m = ticking in (m.2, omega (arith, m.3), omega (arith, m.4))) in
     let m = fitting in record { fits = omega (arith, m.0) }
 
@@ -251,21 +251,21 @@ overflow_add-end c =
     let Taken : Record → Type 0 = (λ r. let l = c.loop-found in
     Turned c.args.log.now l.at l.ticks l.said l.invariant.playing.here.f r c.in-On.behind
     × Known r × (l.ticks + ticks_in r ≤ 32000) × ((l.ticks + ticks_in r) * 4 ≤ length l.pcm) × ((l.ticks + ticks_in r) * 36 ≤ length l.sheet) × (l.said + readings_in r ≤ length l.readings)) in
-    let taking : {r : Record} → c.in-On.found ≡ r → Taken r = (λ e. let l = c.loop-found in
+    let taking : (r : Record) → c.in-On.found ≡ r → Taken r = (λ r e. let l = c.loop-found in
     let i = l.invariant in
     let p = c.requires.2 in
     let t = turned i.playing.here c.read.ensures.0 p.all c.in-On.is c.read.ensures.1 in
     let m = room l.pcm l.sheet l.readings p i.pcm-is i.sheet-is i.readings-is t in
     subst Taken e (t, m.0, m.1, m.2, m.3, m.4)) in
-    let ticking : Taken (Ticks c.in-Ticks.count) = (taking c.in-Ticks.is) in
+    let ticking : Taken (Ticks c.in-Ticks.count) = (taking _ c.in-Ticks.is) in
     let fitting : (let l = c.loop-found in let n = c.in-Ticks.count in (l.ticks + n ≤ 32000) × (l.ticks * 4 + n * 4 ≤ length l.pcm) × (l.ticks * 36 + n * 36 ≤ length l.sheet)) = (let m = ticking in (m.2, omega (arith, m.3), omega (arith, m.4))) in
     let m = fitting in record { fits = omega (arith, m.0) }
 
 pub slice_bounds-drive-end : goal.slice_bounds-drive-end
-slice_bounds-drive-end c = sym c.gauss_table-table.ensures.1.0.1
+slice_bounds-drive-end c = sym c.gauss_table-table.type_inv.1.0.1
 
 pub slice_bounds-drive-end-in-Ticks : goal.slice_bounds-drive-end-in-Ticks
-slice_bounds-drive-end-in-Ticks c = sym c.rate_table-rates.ensures.1.0.1
+slice_bounds-drive-end-in-Ticks c = sym c.rate_table-rates.type_inv.1.0.1
 
 pub slice_bounds-drive-count : goal.slice_bounds-drive-count
 slice_bounds-drive-count c = omega arith
@@ -278,13 +278,13 @@ slice_bounds-drive-end-in-Ticks-6 c =
     let Taken : Record → Type 0 = (λ r. let l = c.loop-found in
     Turned c.args.log.now l.at l.ticks l.said l.invariant.playing.here.f r c.in-On.behind
     × Known r × (l.ticks + ticks_in r ≤ 32000) × ((l.ticks + ticks_in r) * 4 ≤ length l.pcm) × ((l.ticks + ticks_in r) * 36 ≤ length l.sheet) × (l.said + readings_in r ≤ length l.readings)) in
-    let taking : {r : Record} → c.in-On.found ≡ r → Taken r = (λ e. let l = c.loop-found in
+    let taking : (r : Record) → c.in-On.found ≡ r → Taken r = (λ r e. let l = c.loop-found in
     let i = l.invariant in
     let p = c.requires.2 in
     let t = turned i.playing.here c.read.ensures.0 p.all c.in-On.is c.read.ensures.1 in
     let m = room l.pcm l.sheet l.readings p i.pcm-is i.sheet-is i.readings-is t in
     subst Taken e (t, m.0, m.1, m.2, m.3, m.4)) in
-    let ticking : Taken (Ticks c.in-Ticks.count) = (taking c.in-Ticks.is) in
+    let ticking : Taken (Ticks c.in-Ticks.count) = (taking _ c.in-Ticks.is) in
     let fitting : (let l = c.loop-found in let n = c.in-Ticks.count in (l.ticks + n ≤ 32000) × (l.ticks * 4 + n * 4 ≤ length l.pcm) × (l.ticks * 36 + n * 36 ≤ length l.sheet)) = (let m = ticking in (m.2, omega (arith, m.3), omega (arith, m.4))) in
     fitting.1
 
@@ -299,13 +299,13 @@ slice_bounds-drive-end-in-Ticks-7 c =
     let Taken : Record → Type 0 = (λ r. let l = c.loop-found in
     Turned c.args.log.now l.at l.ticks l.said l.invariant.playing.here.f r c.in-On.behind
     × Known r × (l.ticks + ticks_in r ≤ 32000) × ((l.ticks + ticks_in r) * 4 ≤ length l.pcm) × ((l.ticks + ticks_in r) * 36 ≤ length l.sheet) × (l.said + readings_in r ≤ length l.readings)) in
-    let taking : {r : Record} → c.in-On.found ≡ r → Taken r = (λ e. let l = c.loop-found in
+    let taking : (r : Record) → c.in-On.found ≡ r → Taken r = (λ r e. let l = c.loop-found in
     let i = l.invariant in
     let p = c.requires.2 in
     let t = turned i.playing.here c.read.ensures.0 p.all c.in-On.is c.read.ensures.1 in
     let m = room l.pcm l.sheet l.readings p i.pcm-is i.sheet-is i.readings-is t in
     subst Taken e (t, m.0, m.1, m.2, m.3, m.4)) in
-    let ticking : Taken (Ticks c.in-Ticks.count) = (taking c.in-Ticks.is) in
+    let ticking : Taken (Ticks c.in-Ticks.count) = (taking _ c.in-Ticks.is) in
     let fitting : (let l = c.loop-found in let n = c.in-Ticks.count in (l.ticks + n ≤ 32000) × (l.ticks * 4 + n * 4 ≤ length l.pcm) × (l.ticks * 36 + n * 36 ≤ length l.sheet)) = (let m = ticking in (m.2, omega (arith, m.3), omega (arith, m.4))) in
     fitting.2
 
@@ -314,13 +314,13 @@ drive-k-requires c =
     let Taken : Record → Type 0 = (λ r. let l = c.loop-found in
     Turned c.args.log.now l.at l.ticks l.said l.invariant.playing.here.f r c.in-On.behind
     × Known r × (l.ticks + ticks_in r ≤ 32000) × ((l.ticks + ticks_in r) * 4 ≤ length l.pcm) × ((l.ticks + ticks_in r) * 36 ≤ length l.sheet) × (l.said + readings_in r ≤ length l.readings)) in
-    let taking : {r : Record} → c.in-On.found ≡ r → Taken r = (λ e. let l = c.loop-found in
+    let taking : (r : Record) → c.in-On.found ≡ r → Taken r = (λ r e. let l = c.loop-found in
     let i = l.invariant in
     let p = c.requires.2 in
     let t = turned i.playing.here c.read.ensures.0 p.all c.in-On.is c.read.ensures.1 in
     let m = room l.pcm l.sheet l.readings p i.pcm-is i.sheet-is i.readings-is t in
     subst Taken e (t, m.0, m.1, m.2, m.3, m.4)) in
-    let ticking : Taken (Ticks c.in-Ticks.count) = (taking c.in-Ticks.is) in
+    let ticking : Taken (Ticks c.in-Ticks.count) = (taking _ c.in-Ticks.is) in
     let fitting : (let l = c.loop-found in let n = c.in-Ticks.count in (l.ticks + n ≤ 32000) × (l.ticks * 4 + n * 4 ≤ length l.pcm) × (l.ticks * 36 + n * 36 ≤ length l.sheet)) = (let m = ticking in (m.2, omega (arith, m.3), omega (arith, m.4))) in
     let l = c.loop-found in
     let i = l.invariant in
@@ -345,13 +345,13 @@ overflow_add-ticks c =
     let Taken : Record → Type 0 = (λ r. let l = c.loop-found in
     Turned c.args.log.now l.at l.ticks l.said l.invariant.playing.here.f r c.in-On.behind
     × Known r × (l.ticks + ticks_in r ≤ 32000) × ((l.ticks + ticks_in r) * 4 ≤ length l.pcm) × ((l.ticks + ticks_in r) * 36 ≤ length l.sheet) × (l.said + readings_in r ≤ length l.readings)) in
-    let taking : {r : Record} → c.in-On.found ≡ r → Taken r = (λ e. let l = c.loop-found in
+    let taking : (r : Record) → c.in-On.found ≡ r → Taken r = (λ r e. let l = c.loop-found in
     let i = l.invariant in
     let p = c.requires.2 in
     let t = turned i.playing.here c.read.ensures.0 p.all c.in-On.is c.read.ensures.1 in
     let m = room l.pcm l.sheet l.readings p i.pcm-is i.sheet-is i.readings-is t in
     subst Taken e (t, m.0, m.1, m.2, m.3, m.4)) in
-    let ticking : Taken (Ticks c.in-Ticks.count) = (taking c.in-Ticks.is) in
+    let ticking : Taken (Ticks c.in-Ticks.count) = (taking _ c.in-Ticks.is) in
     let fitting : (let l = c.loop-found in let n = c.in-Ticks.count in (l.ticks + n ≤ 32000) × (l.ticks * 4 + n * 4 ≤ length l.pcm) × (l.ticks * 36 + n * 36 ≤ length l.sheet)) = (let m = ticking in (m.2, omega (arith, m.3), omega (arith, m.4))) in
     let m = fitting in record { fits = omega (arith, m.0) }
 
@@ -360,13 +360,13 @@ bounds-bytes-r c =
     let Taken : Record → Type 0 = (λ r. let l = c.loop-found in
     Turned c.args.log.now l.at l.ticks l.said l.invariant.playing.here.f r c.in-On.behind
     × Known r × (l.ticks + ticks_in r ≤ 32000) × ((l.ticks + ticks_in r) * 4 ≤ length l.pcm) × ((l.ticks + ticks_in r) * 36 ≤ length l.sheet) × (l.said + readings_in r ≤ length l.readings)) in
-    let taking : {r : Record} → c.in-On.found ≡ r → Taken r = (λ e. let l = c.loop-found in
+    let taking : (r : Record) → c.in-On.found ≡ r → Taken r = (λ r e. let l = c.loop-found in
     let i = l.invariant in
     let p = c.requires.2 in
     let t = turned i.playing.here c.read.ensures.0 p.all c.in-On.is c.read.ensures.1 in
     let m = room l.pcm l.sheet l.readings p i.pcm-is i.sheet-is i.readings-is t in
     subst Taken e (t, m.0, m.1, m.2, m.3, m.4)) in
-    let reading : Taken (Reading c.in-Reading.register) = (taking c.in-Reading.is) in
+    let reading : Taken (Reading c.in-Reading.register) = (taking _ c.in-Reading.is) in
     let k = reading.1 in omega (arith, k)
 
 pub bounds-readings-said : goal.bounds-readings-said
@@ -374,13 +374,13 @@ bounds-readings-said c =
     let Taken : Record → Type 0 = (λ r. let l = c.loop-found in
     Turned c.args.log.now l.at l.ticks l.said l.invariant.playing.here.f r c.in-On.behind
     × Known r × (l.ticks + ticks_in r ≤ 32000) × ((l.ticks + ticks_in r) * 4 ≤ length l.pcm) × ((l.ticks + ticks_in r) * 36 ≤ length l.sheet) × (l.said + readings_in r ≤ length l.readings)) in
-    let taking : {r : Record} → c.in-On.found ≡ r → Taken r = (λ e. let l = c.loop-found in
+    let taking : (r : Record) → c.in-On.found ≡ r → Taken r = (λ r e. let l = c.loop-found in
     let i = l.invariant in
     let p = c.requires.2 in
     let t = turned i.playing.here c.read.ensures.0 p.all c.in-On.is c.read.ensures.1 in
     let m = room l.pcm l.sheet l.readings p i.pcm-is i.sheet-is i.readings-is t in
     subst Taken e (t, m.0, m.1, m.2, m.3, m.4)) in
-    let reading : Taken (Reading c.in-Reading.register) = (taking c.in-Reading.is) in
+    let reading : Taken (Reading c.in-Reading.register) = (taking _ c.in-Reading.is) in
     let m = reading.5 in omega (arith, m)
 
 pub overflow_add-said : goal.overflow_add-said
@@ -388,13 +388,13 @@ overflow_add-said c =
     let Taken : Record → Type 0 = (λ r. let l = c.loop-found in
     Turned c.args.log.now l.at l.ticks l.said l.invariant.playing.here.f r c.in-On.behind
     × Known r × (l.ticks + ticks_in r ≤ 32000) × ((l.ticks + ticks_in r) * 4 ≤ length l.pcm) × ((l.ticks + ticks_in r) * 36 ≤ length l.sheet) × (l.said + readings_in r ≤ length l.readings)) in
-    let taking : {r : Record} → c.in-On.found ≡ r → Taken r = (λ e. let l = c.loop-found in
+    let taking : (r : Record) → c.in-On.found ≡ r → Taken r = (λ r e. let l = c.loop-found in
     let i = l.invariant in
     let p = c.requires.2 in
     let t = turned i.playing.here c.read.ensures.0 p.all c.in-On.is c.read.ensures.1 in
     let m = room l.pcm l.sheet l.readings p i.pcm-is i.sheet-is i.readings-is t in
     subst Taken e (t, m.0, m.1, m.2, m.3, m.4)) in
-    let reading : Taken (Reading c.in-Reading.register) = (taking c.in-Reading.is) in
+    let reading : Taken (Reading c.in-Reading.register) = (taking _ c.in-Reading.is) in
     let readings_few : length c.args.readings.now < 18446744073709551616 = (search rules) in
     let m = reading.5 in let e = c.loop-found.invariant.readings-is in let g = readings_few in record { fits = omega (arith, m, e, g) }
 
@@ -403,13 +403,13 @@ loop-found-smaller-then-register-value c =
     let Taken : Record → Type 0 = (λ r. let l = c.loop-found in
     Turned c.args.log.now l.at l.ticks l.said l.invariant.playing.here.f r c.in-On.behind
     × Known r × (l.ticks + ticks_in r ≤ 32000) × ((l.ticks + ticks_in r) * 4 ≤ length l.pcm) × ((l.ticks + ticks_in r) * 36 ≤ length l.sheet) × (l.said + readings_in r ≤ length l.readings)) in
-    let taking : {r : Record} → c.in-On.found ≡ r → Taken r = (λ e. let l = c.loop-found in
+    let taking : (r : Record) → c.in-On.found ≡ r → Taken r = (λ r e. let l = c.loop-found in
     let i = l.invariant in
     let p = c.requires.2 in
     let t = turned i.playing.here c.read.ensures.0 p.all c.in-On.is c.read.ensures.1 in
     let m = room l.pcm l.sheet l.readings p i.pcm-is i.sheet-is i.readings-is t in
     subst Taken e (t, m.0, m.1, m.2, m.3, m.4)) in
-    let wrote : Taken (Write c.in-Write.register c.in-Write.value) = (taking c.in-Write.is) in
+    let wrote : Taken (Write c.in-Write.register c.in-Write.value) = (taking _ c.in-Write.is) in
     let u = wrote.0 in omega arith
 
 pub loop-found-preserved-then-register-value : goal.loop-found-preserved-then-register-value
@@ -419,19 +419,19 @@ loop-found-preserved-then-register-value c =
     let Taken : Record → Type 0 = (λ r. let l = c.loop-found in
     Turned c.args.log.now l.at l.ticks l.said l.invariant.playing.here.f r c.in-On.behind
     × Known r × (l.ticks + ticks_in r ≤ 32000) × ((l.ticks + ticks_in r) * 4 ≤ length l.pcm) × ((l.ticks + ticks_in r) * 36 ≤ length l.sheet) × (l.said + readings_in r ≤ length l.readings)) in
-    let taking : {r : Record} → c.in-On.found ≡ r → Taken r = (λ e. let l = c.loop-found in
+    let taking : (r : Record) → c.in-On.found ≡ r → Taken r = (λ r e. let l = c.loop-found in
     let i = l.invariant in
     let p = c.requires.2 in
     let t = turned i.playing.here c.read.ensures.0 p.all c.in-On.is c.read.ensures.1 in
     let m = room l.pcm l.sheet l.readings p i.pcm-is i.sheet-is i.readings-is t in
     subst Taken e (t, m.0, m.1, m.2, m.3, m.4)) in
-    let wrote : Taken (Write c.in-Write.register c.in-Write.value) = (taking c.in-Write.is) in
+    let wrote : Taken (Write c.in-Write.register c.in-Write.value) = (taking _ c.in-Write.is) in
     let write_on_lem : (b : Arrays) → Sized b → (let l = c.loop-found in b ≡ (if resets c.in-Write.register c.in-Write.value then hushed_arrays (arrays l.envelopes l.plays l.feeds l.currents l.store) else arrays l.envelopes l.plays l.feeds l.currents l.store))
     → (let l = c.loop-found in
     let a = c.args in
-    Between a.work a.log.now a.pcm.now a.sheet.now a.readings.now (starting a.start a.ram.now a.sheet.now) (set l.dials (c.in-Write.register / 16) c.write-e.result) c.put_byte.last.1.1.1.0 b l.delays c.put_byte.last.1.1.0 c.write-f.result l.ram l.pcm l.sheet l.readings l.ticks l.said c.in-On.behind) = (λ b h e. let p = c.put_byte in
+    Between a.work a.log.now a.pcm.now a.sheet.now a.readings.now (starting a.start a.ram.now a.sheet.now) (set l.dials (c.in-Write.register / 16) c.write-e.result) c.put_byte.new.taps b l.delays c.put_byte.new.bytes c.write-f.result l.ram l.pcm l.sheet l.readings l.ticks l.said c.in-On.behind) = (λ b h e. let p = c.put_byte in
     let i = c.loop-found.invariant in
-    on_write i c.in-Write.register c.in-Write.value c.write-e.result p.last.1.1.1.0 b p.last.1.1.0 c.write-f.result wrote.0 wrote.1 value_small h (p.kept.1.1.1.0 ∙ i.eight) c.write-e.ensures p.ensures.0 p.ensures.1 c.write-f.ensures e) in
+    on_write i c.in-Write.register c.in-Write.value c.write-e.result p.new.taps b p.new.bytes c.write-f.result wrote.0 wrote.1 value_small h (p.auto.taps ∙ i.eight) c.write-e.ensures p.ensures.0 p.ensures.1 c.write-f.ensures e) in
     let l = c.loop-found in
     let i = l.invariant.sized in
     let y = c.hush-h.ensures in
@@ -450,13 +450,13 @@ loop-found-smaller-else-register-value c =
     let Taken : Record → Type 0 = (λ r. let l = c.loop-found in
     Turned c.args.log.now l.at l.ticks l.said l.invariant.playing.here.f r c.in-On.behind
     × Known r × (l.ticks + ticks_in r ≤ 32000) × ((l.ticks + ticks_in r) * 4 ≤ length l.pcm) × ((l.ticks + ticks_in r) * 36 ≤ length l.sheet) × (l.said + readings_in r ≤ length l.readings)) in
-    let taking : {r : Record} → c.in-On.found ≡ r → Taken r = (λ e. let l = c.loop-found in
+    let taking : (r : Record) → c.in-On.found ≡ r → Taken r = (λ r e. let l = c.loop-found in
     let i = l.invariant in
     let p = c.requires.2 in
     let t = turned i.playing.here c.read.ensures.0 p.all c.in-On.is c.read.ensures.1 in
     let m = room l.pcm l.sheet l.readings p i.pcm-is i.sheet-is i.readings-is t in
     subst Taken e (t, m.0, m.1, m.2, m.3, m.4)) in
-    let wrote : Taken (Write c.in-Write.register c.in-Write.value) = (taking c.in-Write.is) in
+    let wrote : Taken (Write c.in-Write.register c.in-Write.value) = (taking _ c.in-Write.is) in
     let u = wrote.0 in omega arith
 
 pub loop-found-preserved-else-register-value : goal.loop-found-preserved-else-register-value
@@ -466,19 +466,19 @@ loop-found-preserved-else-register-value c =
     let Taken : Record → Type 0 = (λ r. let l = c.loop-found in
     Turned c.args.log.now l.at l.ticks l.said l.invariant.playing.here.f r c.in-On.behind
     × Known r × (l.ticks + ticks_in r ≤ 32000) × ((l.ticks + ticks_in r) * 4 ≤ length l.pcm) × ((l.ticks + ticks_in r) * 36 ≤ length l.sheet) × (l.said + readings_in r ≤ length l.readings)) in
-    let taking : {r : Record} → c.in-On.found ≡ r → Taken r = (λ e. let l = c.loop-found in
+    let taking : (r : Record) → c.in-On.found ≡ r → Taken r = (λ r e. let l = c.loop-found in
     let i = l.invariant in
     let p = c.requires.2 in
     let t = turned i.playing.here c.read.ensures.0 p.all c.in-On.is c.read.ensures.1 in
     let m = room l.pcm l.sheet l.readings p i.pcm-is i.sheet-is i.readings-is t in
     subst Taken e (t, m.0, m.1, m.2, m.3, m.4)) in
-    let wrote : Taken (Write c.in-Write.register c.in-Write.value) = (taking c.in-Write.is) in
+    let wrote : Taken (Write c.in-Write.register c.in-Write.value) = (taking _ c.in-Write.is) in
     let write_on_lem : (b : Arrays) → Sized b → (let l = c.loop-found in b ≡ (if resets c.in-Write.register c.in-Write.value then hushed_arrays (arrays l.envelopes l.plays l.feeds l.currents l.store) else arrays l.envelopes l.plays l.feeds l.currents l.store))
     → (let l = c.loop-found in
     let a = c.args in
-    Between a.work a.log.now a.pcm.now a.sheet.now a.readings.now (starting a.start a.ram.now a.sheet.now) (set l.dials (c.in-Write.register / 16) c.write-e.result) c.put_byte.last.1.1.1.0 b l.delays c.put_byte.last.1.1.0 c.write-f.result l.ram l.pcm l.sheet l.readings l.ticks l.said c.in-On.behind) = (λ b h e. let p = c.put_byte in
+    Between a.work a.log.now a.pcm.now a.sheet.now a.readings.now (starting a.start a.ram.now a.sheet.now) (set l.dials (c.in-Write.register / 16) c.write-e.result) c.put_byte.new.taps b l.delays c.put_byte.new.bytes c.write-f.result l.ram l.pcm l.sheet l.readings l.ticks l.said c.in-On.behind) = (λ b h e. let p = c.put_byte in
     let i = c.loop-found.invariant in
-    on_write i c.in-Write.register c.in-Write.value c.write-e.result p.last.1.1.1.0 b p.last.1.1.0 c.write-f.result wrote.0 wrote.1 value_small h (p.kept.1.1.1.0 ∙ i.eight) c.write-e.ensures p.ensures.0 p.ensures.1 c.write-f.ensures e) in
+    on_write i c.in-Write.register c.in-Write.value c.write-e.result p.new.taps b p.new.bytes c.write-f.result wrote.0 wrote.1 value_small h (p.auto.taps ∙ i.eight) c.write-e.ensures p.ensures.0 p.ensures.1 c.write-f.ensures e) in
     let l = c.loop-found in write_on_lem (arrays l.envelopes l.plays l.feeds l.currents l.store) l.invariant.sized (rw (reset_is ∙ c.if-register-value.false))
 
 pub loop-found-smaller-in-Ticks : goal.loop-found-smaller-in-Ticks
@@ -486,13 +486,13 @@ loop-found-smaller-in-Ticks c =
     let Taken : Record → Type 0 = (λ r. let l = c.loop-found in
     Turned c.args.log.now l.at l.ticks l.said l.invariant.playing.here.f r c.in-On.behind
     × Known r × (l.ticks + ticks_in r ≤ 32000) × ((l.ticks + ticks_in r) * 4 ≤ length l.pcm) × ((l.ticks + ticks_in r) * 36 ≤ length l.sheet) × (l.said + readings_in r ≤ length l.readings)) in
-    let taking : {r : Record} → c.in-On.found ≡ r → Taken r = (λ e. let l = c.loop-found in
+    let taking : (r : Record) → c.in-On.found ≡ r → Taken r = (λ r e. let l = c.loop-found in
     let i = l.invariant in
     let p = c.requires.2 in
     let t = turned i.playing.here c.read.ensures.0 p.all c.in-On.is c.read.ensures.1 in
     let m = room l.pcm l.sheet l.readings p i.pcm-is i.sheet-is i.readings-is t in
     subst Taken e (t, m.0, m.1, m.2, m.3, m.4)) in
-    let ticking : Taken (Ticks c.in-Ticks.count) = (taking c.in-Ticks.is) in
+    let ticking : Taken (Ticks c.in-Ticks.count) = (taking _ c.in-Ticks.is) in
     let u = ticking.0 in omega arith
 
 pub loop-found-preserved-in-Ticks : goal.loop-found-preserved-in-Ticks
@@ -500,35 +500,35 @@ loop-found-preserved-in-Ticks c =
     let Taken : Record → Type 0 = (λ r. let l = c.loop-found in
     Turned c.args.log.now l.at l.ticks l.said l.invariant.playing.here.f r c.in-On.behind
     × Known r × (l.ticks + ticks_in r ≤ 32000) × ((l.ticks + ticks_in r) * 4 ≤ length l.pcm) × ((l.ticks + ticks_in r) * 36 ≤ length l.sheet) × (l.said + readings_in r ≤ length l.readings)) in
-    let taking : {r : Record} → c.in-On.found ≡ r → Taken r = (λ e. let l = c.loop-found in
+    let taking : (r : Record) → c.in-On.found ≡ r → Taken r = (λ r e. let l = c.loop-found in
     let i = l.invariant in
     let p = c.requires.2 in
     let t = turned i.playing.here c.read.ensures.0 p.all c.in-On.is c.read.ensures.1 in
     let m = room l.pcm l.sheet l.readings p i.pcm-is i.sheet-is i.readings-is t in
     subst Taken e (t, m.0, m.1, m.2, m.3, m.4)) in
-    let ticking : Taken (Ticks c.in-Ticks.count) = (taking c.in-Ticks.is) in
+    let ticking : Taken (Ticks c.in-Ticks.count) = (taking _ c.in-Ticks.is) in
     let fitting : (let l = c.loop-found in let n = c.in-Ticks.count in (l.ticks + n ≤ 32000) × (l.ticks * 4 + n * 4 ≤ length l.pcm) × (l.ticks * 36 + n * 36 ≤ length l.sheet)) = (let m = ticking in (m.2, omega (arith, m.3), omega (arith, m.4))) in
     let i = c.loop-found.invariant in
     let m = fitting in
     let d = c.drive-k in
     let e = d.ensures in
-    let k = d.kept in
+    let k = d.auto in
     on_ticks i c.in-Ticks.count _ _ _ _ _ _ _ ticking.0
-    (record { envelopes = e.2; plays = e.3; feeds = e.4; currents = k.1.1.1.1.1.1.1.0 ∙ i.sized.currents; store = k.1.1.1.1.1.1.1.1.1.0 ∙ i.sized.store })
-    m.1 m.2 k.1.1.1.1.1.1.1.1.1.1.1.1.0 k.1.1.1.1.1.1.1.1.1.1.1.1.1.0 e.0
+    (record { envelopes = e.2; plays = e.3; feeds = e.4; currents = k.currents ∙ i.sized.currents; store = k.store ∙ i.sized.store })
+    m.1 m.2 k.pcm k.sheet e.0
 
 pub loop-found-smaller : goal.loop-found-smaller
 loop-found-smaller c =
     let Taken : Record → Type 0 = (λ r. let l = c.loop-found in
     Turned c.args.log.now l.at l.ticks l.said l.invariant.playing.here.f r c.in-On.behind
     × Known r × (l.ticks + ticks_in r ≤ 32000) × ((l.ticks + ticks_in r) * 4 ≤ length l.pcm) × ((l.ticks + ticks_in r) * 36 ≤ length l.sheet) × (l.said + readings_in r ≤ length l.readings)) in
-    let taking : {r : Record} → c.in-On.found ≡ r → Taken r = (λ e. let l = c.loop-found in
+    let taking : (r : Record) → c.in-On.found ≡ r → Taken r = (λ r e. let l = c.loop-found in
     let i = l.invariant in
     let p = c.requires.2 in
     let t = turned i.playing.here c.read.ensures.0 p.all c.in-On.is c.read.ensures.1 in
     let m = room l.pcm l.sheet l.readings p i.pcm-is i.sheet-is i.readings-is t in
     subst Taken e (t, m.0, m.1, m.2, m.3, m.4)) in
-    let reading : Taken (Reading c.in-Reading.register) = (taking c.in-Reading.is) in
+    let reading : Taken (Reading c.in-Reading.register) = (taking _ c.in-Reading.is) in
     let u = reading.0 in omega arith
 
 pub loop-found-preserved : goal.loop-found-preserved
@@ -536,11 +536,11 @@ loop-found-preserved c =
     let Taken : Record → Type 0 = (λ r. let l = c.loop-found in
     Turned c.args.log.now l.at l.ticks l.said l.invariant.playing.here.f r c.in-On.behind
     × Known r × (l.ticks + ticks_in r ≤ 32000) × ((l.ticks + ticks_in r) * 4 ≤ length l.pcm) × ((l.ticks + ticks_in r) * 36 ≤ length l.sheet) × (l.said + readings_in r ≤ length l.readings)) in
-    let taking : {r : Record} → c.in-On.found ≡ r → Taken r = (λ e. let l = c.loop-found in
+    let taking : (r : Record) → c.in-On.found ≡ r → Taken r = (λ r e. let l = c.loop-found in
     let i = l.invariant in
     let p = c.requires.2 in
     let t = turned i.playing.here c.read.ensures.0 p.all c.in-On.is c.read.ensures.1 in
     let m = room l.pcm l.sheet l.readings p i.pcm-is i.sheet-is i.readings-is t in
     subst Taken e (t, m.0, m.1, m.2, m.3, m.4)) in
-    let reading : Taken (Reading c.in-Reading.register) = (taking c.in-Reading.is) in
+    let reading : Taken (Reading c.in-Reading.register) = (taking _ c.in-Reading.is) in
     let m = reading in on_reading c.loop-found.invariant c.in-Reading.register m.0 (omega (arith, m.5))

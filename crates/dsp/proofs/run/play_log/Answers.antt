@@ -22,7 +22,7 @@ pub returns-then-not-is_fit : goal.returns-then-not-is_fit
 unfolding run_with run_measured
 returns-then-not-is_fit c =
     let ram_there : length c.args.ram.now ≡ 0x10000 = (omega (arith, c.if-ram-ne-RAM_SIZE.false)) in
-    rw (eq-eqb _ _ ram_there, sym c.is_fit.ensures ∙ c.if-not-is_fit.true (cc)
+    rw (eq-eqb _ _ ram_there, sym c.is_fit.ensures ∙ c.if-not-is_fit.true) (cc)
 
 pub returns-then-m-ne0 : goal.returns-then-m-ne0
 unfolding run_with run_measured
@@ -40,14 +40,14 @@ returns-then-not-is_room c =
     let ram_there : length c.args.ram.now ≡ 0x10000 = (omega (arith, c.if-ram-ne-RAM_SIZE.false)) in
     let fit_there : fit c.args.start ≡ true = (sym c.is_fit.ensures ∙ c.if-not-is_fit.false) in
     let r = c.is_room in
-    rw (eq-eqb _ _ ram_there, fit_there, ← c.measure-m.ensures, eq-eqb _ _ c.if-m-ne0.false, ← r.ensures, c.if-not-is_room.true (cc)
+    rw (eq-eqb _ _ ram_there, fit_there, ← c.measure-m.ensures, eq-eqb _ _ c.if-m-ne0.false, ← r.ensures, c.if-not-is_room.true) (cc)
 
 pub play_all-d-requires : goal.play_all-d-requires
 play_all-d-requires c =
     let ram_there : length c.args.ram.now ≡ 0x10000 = (omega (arith, c.if-ram-ne-RAM_SIZE.false)) in
     let fit_there : fit c.args.start ≡ true = (sym c.is_fit.ensures ∙ c.if-not-is_fit.false) in
     let r = c.is_room.ensures in
-    (ram_there, fit_facts _ fit_there, ready _ _ _ _ c.measure-m.result (taken _ _ c.measure-m.ensures c.if-m-ne0.false) (◌∙◌ {a = r 1} (sym {b = r 1} r) (c.if-not-is_room.false))
+    (ram_there, fit_facts _ fit_there, ready _ _ _ _ c.measure-m.result (taken _ _ c.measure-m.ensures c.if-m-ne0.false) (◌∙◌ {a = r 1} (sym {b = r 1} r) (c.if-not-is_room.false)))
 
 pub returns : goal.returns
 unfolding run_with run_measured
@@ -56,5 +56,5 @@ returns c =
     let fit_there : fit c.args.start ≡ true = (sym c.is_fit.ensures ∙ c.if-not-is_fit.false) in
     let r = c.is_room in
     let m = c.measure-m.result in
-    rw (eq-eqb _ _ ram_there, fit_there, ← c.measure-m.ensures, eq-eqb _ _ c.if-m-ne0.false, ← r.ensures, c.if-not-is_room.false
+    rw (eq-eqb _ _ ram_there, fit_there, ← c.measure-m.ensures, eq-eqb _ _ c.if-m-ne0.false, ← r.ensures, c.if-not-is_room.false)
     (λ i. ran m (c.play_all-d.ensures i))

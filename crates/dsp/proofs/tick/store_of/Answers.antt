@@ -38,11 +38,11 @@ loop-n-preserved c =
     let p = c.put_samples in
     let voices = c.args.voices in
     let r = room in
-    let e : length p.new.0 ≡ 16 = ap length p.ensures ∙ samples_sized in (
+    let e : length p.new.to ≡ 16 = ap length p.ensures ∙ samples_sized in (
       omega (arith, c.loop-n-test.true),
-      rw (part_span l.n) (store_length l.n l.store p.new.0 r e ∙ l.invariant.1),
+      rw (part_span l.n) (store_length l.n l.store p.new.to r e ∙ l.invariant.1),
       rw (part_span l.n)
-          (parts_more l.n l.store p.new.0 r e (λ j. (get_or voices j no_voice).brr.sample_buffer) (p.ensures ∙ c.samples-x.ensures) l.invariant.2),
+          (parts_more l.n l.store p.new.to r e (λ j. (get_or voices j no_voice).brr.sample_buffer) (p.ensures ∙ c.samples-x.ensures) l.invariant.2),
     )
 
 pub returns : goal.returns

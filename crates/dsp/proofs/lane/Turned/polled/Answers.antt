@@ -19,6 +19,7 @@ use Rattle.dsp.specs.Voice.{Sounding}
 use Rattle.dsp.specs.Lane.{polled_of}
 use Rattle.dsp.specs.Inside.{history_of, as_brr, restored}
 use Rattle.dsp.specs.declared.voice.Voice.{Voice}
+use Rattle.numbers.specs.Bits.{bit}
 use Rattle.dsp.proofs.lane.Turned.polled.Goals as goal
 
 -- a key-on overwrites what KOFF changed
@@ -45,7 +46,7 @@ returns-then-bit c =
     let a = c.args in
     let kon = sym (rw (mod-eq_of_lt c.requires.3) at c.bit.ensures) ∙ c.if-bit.true in
     let here = get_or-set_same a.currents.now a.j (pos 0) (pos 0) (omega (arith, c.requires.0, c.requires.3)) in (
-      λ v samples endx e. rw (kon, on_over_off, here) (ap (sounding false) (anew v _ samples e)),
+      λ v samples endx e. rw (kon, on_over_off (bit a.c.koff a.j) a.c.dir_base v, here) (ap (sounding false) (anew v _ samples e)),
       rw kon,
       rw kon,
       rw kon c.put_endx.ensures,

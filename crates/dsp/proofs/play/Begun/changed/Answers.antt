@@ -2,7 +2,6 @@
 use borrow.Author.Rules.{rules}
 use mathlib.Core.Bool.{Bool, true, ◌||◌}
 use mathlib.Core.List.{List}
-use mathlib.Core.Logic.{⊎_elim}
 use mathlib.Core.Path.{◌≡◌, refl, ap, ◌∙◌}
 use Prim.Native.Nat.{ℕ, ◌+◌, ◌*◌}
 use lib.ListN.{get_or, length, length-set}
@@ -15,11 +14,12 @@ use Rattle.dsp.specs.declared.adsr.Envelope.{Envelope}
 use Rattle.dsp.specs.declared.voice.Voice.{Voice}
 use Rattle.dsp.proofs.Plays.{anew, cut_by, block_changed}
 use Rattle.dsp.proofs.play.Begun.changed.Goals as goal
+use Rattle.dsp.proofs.play.Begun.changed.Goals.{then-feed, else-feed}
 
 pub shape_of-bytes-then-z : goal.shape_of-bytes-then-z
 shape_of-bytes-then-z c =
     let bytes_are : let a = c.args in
-    c.if-feed.bytes ≡ (if c.next_block-z.result.feed.block_end then put_endx a.j true a.bytes.now else a.bytes.now) = (⊎_elim (λ w. w.5 ∙ w.2.ensures ∙ rw w.0.taken) (λ w. w.1 ∙ rw w.0.left) c.if-feed.branch) in
+    c.if-feed.bytes ≡ (if c.next_block-z.result.feed.block_end then put_endx a.j true a.bytes.now else a.bytes.now) = (elim c.if-feed.branch [ then-feed w ↦ w.bytes-is ∙ w.put_endx.ensures ∙ rw w.if-feed.true | else-feed w ↦ w.bytes-is ∙ rw w.if-feed.false ]) in
     let bytes_sized : length c.if-feed.bytes ≡ length c.args.bytes.now = (let b = c.args.bytes.now in
     rw bytes_are (chosen (λ (x : List ℕ). length x ≡ length b) c.next_block-z.result.feed.block_end (simp length-set) refl)) in
     bytes_sized
@@ -28,12 +28,12 @@ pub returns-then-z : goal.returns-then-z
 unfolding next_address
 returns-then-z c =
     let bytes_are : let a = c.args in
-    c.if-feed.bytes ≡ (if c.next_block-z.result.feed.block_end then put_endx a.j true a.bytes.now else a.bytes.now) = (⊎_elim (λ w. w.5 ∙ w.2.ensures ∙ rw w.0.taken) (λ w. w.1 ∙ rw w.0.left) c.if-feed.branch) in
+    c.if-feed.bytes ≡ (if c.next_block-z.result.feed.block_end then put_endx a.j true a.bytes.now else a.bytes.now) = (elim c.if-feed.branch [ then-feed w ↦ w.bytes-is ∙ w.put_endx.ensures ∙ rw w.if-feed.true | else-feed w ↦ w.bytes-is ∙ rw w.if-feed.false ]) in
     let turned : (v : Voice) (endx : Bool) (y : Envelope)
     → let a = c.args in
     let z = c.next_block-z.result in
     as_envelope v.adsr y ≡ cut_by z.mutes a.e v.adsr
-    → as_sounding v y c.resumed-play.result z.feed c.next_block-z.new.1.1.0 (endx || z.feed.block_end)
+    → as_sounding v y c.resumed-play.result z.feed c.next_block-z.new.samples (endx || z.feed.block_end)
     ≡ gone_on (a.f.buffer_fill =? 0) a.self.rest
     (decoded_at a.ram.now (block_address a.ram.now a.c.dir (get_or a.bytes.now (a.j * 16 + 4) 0) (as_brr a.self.play a.f a.samples.now))
     (as_sounding v a.e a.self.play a.f a.samples.now endx)) = (λ v endx y cut. let a = c.args in
@@ -47,7 +47,7 @@ returns-then-z c =
 pub shape_of-bytes-else-z : goal.shape_of-bytes-else-z
 shape_of-bytes-else-z c =
     let bytes_are : let a = c.args in
-    c.if-feed.bytes ≡ (if c.next_block-z.result.feed.block_end then put_endx a.j true a.bytes.now else a.bytes.now) = (⊎_elim (λ w. w.5 ∙ w.2.ensures ∙ rw w.0.taken) (λ w. w.1 ∙ rw w.0.left) c.if-feed.branch) in
+    c.if-feed.bytes ≡ (if c.next_block-z.result.feed.block_end then put_endx a.j true a.bytes.now else a.bytes.now) = (elim c.if-feed.branch [ then-feed w ↦ w.bytes-is ∙ w.put_endx.ensures ∙ rw w.if-feed.true | else-feed w ↦ w.bytes-is ∙ rw w.if-feed.false ]) in
     let bytes_sized : length c.if-feed.bytes ≡ length c.args.bytes.now = (let b = c.args.bytes.now in
     rw bytes_are (chosen (λ (x : List ℕ). length x ≡ length b) c.next_block-z.result.feed.block_end (simp length-set) refl)) in
     bytes_sized
@@ -56,12 +56,12 @@ pub returns-else-z : goal.returns-else-z
 unfolding next_address
 returns-else-z c =
     let bytes_are : let a = c.args in
-    c.if-feed.bytes ≡ (if c.next_block-z.result.feed.block_end then put_endx a.j true a.bytes.now else a.bytes.now) = (⊎_elim (λ w. w.5 ∙ w.2.ensures ∙ rw w.0.taken) (λ w. w.1 ∙ rw w.0.left) c.if-feed.branch) in
+    c.if-feed.bytes ≡ (if c.next_block-z.result.feed.block_end then put_endx a.j true a.bytes.now else a.bytes.now) = (elim c.if-feed.branch [ then-feed w ↦ w.bytes-is ∙ w.put_endx.ensures ∙ rw w.if-feed.true | else-feed w ↦ w.bytes-is ∙ rw w.if-feed.false ]) in
     let turned : (v : Voice) (endx : Bool) (y : Envelope)
     → let a = c.args in
     let z = c.next_block-z.result in
     as_envelope v.adsr y ≡ cut_by z.mutes a.e v.adsr
-    → as_sounding v y c.resumed-play.result z.feed c.next_block-z.new.1.1.0 (endx || z.feed.block_end)
+    → as_sounding v y c.resumed-play.result z.feed c.next_block-z.new.samples (endx || z.feed.block_end)
     ≡ gone_on (a.f.buffer_fill =? 0) a.self.rest
     (decoded_at a.ram.now (block_address a.ram.now a.c.dir (get_or a.bytes.now (a.j * 16 + 4) 0) (as_brr a.self.play a.f a.samples.now))
     (as_sounding v a.e a.self.play a.f a.samples.now endx)) = (λ v endx y cut. let a = c.args in

@@ -12,4 +12,4 @@ returns-then-self-eq0 c p samples = let a = c.args.self.addr in
     rw (eq-eqb _ _ c.if-self-eq0.true) (c.read_le16.ensures ∙ rw z)
 
 pub returns-else-self-eq0 : goal.returns-else-self-eq0
-returns-else-self-eq0 c p samples = rw (ne_eqb _ _ c.if-self-eq0.false) (c.Next-address.ensures p samples)
+returns-else-self-eq0 c p samples = rw (ne_eqb _ _ c.if-self-eq0.false) (c.next_address.ensures p samples)

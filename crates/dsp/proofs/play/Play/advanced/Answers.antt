@@ -1,7 +1,6 @@
 -- The room that the block leaves, the samples that are taken of it, and the callees. The position never goes back.
 use borrow.Author.Rules.{rules}
 use borrow.Author.Tests.{eq-eqb, ne_eqb, le-leb, leb-true, leb-false}
-use mathlib.Core.Logic.{⊎_elim}
 use mathlib.Core.Path.{◌≡◌, refl, sym, ◌∙◌}
 use Prim.Native.Nat.{ℕ, ◌-◌, ◌/◌, ◌%◌, ◌≤◌}
 use native.Mathlib.Omega.{arith}
@@ -14,6 +13,7 @@ use Rattle.dsp.specs.Inside.{as_source, as_sounding, pushed_on, room_of}
 use Rattle.dsp.proofs.Pitch.{position_least}
 use Rattle.dsp.proofs.Plays.{pitched, Sixteen, history_read, play-at, left_over}
 use Rattle.dsp.proofs.play.Play.advanced.Goals as goal
+use Rattle.dsp.proofs.play.Play.advanced.Goals.{then-fill-eq0, else-fill-eq0, then-due, else-due}
 
 abbrev room : ℕ → ℕ → ℕ
 room fill index = if fill =? 0 then 0 else 16 - index
@@ -26,11 +26,11 @@ overflow_sub-n c = let a = c.args in
 
 pub heard-q-requires : goal.heard-q-requires
 heard-q-requires c =
-    let room_is : c.if-fill-eq0.room ≡ room c.args.fill c.args.self.nibble_idx = (⊎_elim (λ w. w.1 ∙ rw (eq-eqb _ _ w.0.taken)) (λ w. w.2 ∙ rw (ne_eqb _ _ w.0.left)) c.if-fill-eq0.branch) in
+    let room_is : c.if-fill-eq0.room ≡ room c.args.fill c.args.self.nibble_idx = (elim c.if-fill-eq0.branch [ then-fill-eq0 w ↦ w.room-is ∙ rw (eq-eqb _ _ w.if-fill-eq0.true) | else-fill-eq0 w ↦ w.room-is ∙ rw (ne_eqb _ _ w.if-fill-eq0.false) ]) in
     let count : ℕ = (c.position_of-at.result / 0x1000 - c.args.self.pitch_counter % 0x4000 / 0x1000) in
     let take-is : c.if-due.take ≡ least count c.if-fill-eq0.room = (let n = count in
     let r = c.if-fill-eq0.room in
-    ⊎_elim (λ w. w.1 ∙ sym (least_top n r (leb-true r n w.0.taken))) (λ w. let l : n ≤ r = omega (arith, leb-false r n w.0.left) in w.1 ∙ rw (le-leb n r l)) c.if-due.branch) in
+    elim c.if-due.branch [ then-due w ↦ w.take-is ∙ sym (least_top n r w.if-due.true) | else-due w ↦ let l : n ≤ r = omega (arith, w.if-due.false) in w.take-is ∙ rw (le-leb n r l) ]) in
     let take_le : (c.if-due.take ≤ count) × (c.if-due.take ≤ c.if-fill-eq0.room) = (let h = least-both count c.if-fill-eq0.room in rw take-is (h.0, h.1)) in
     let k = c.args.self.nibble_idx in
     let p = c.requires in
@@ -42,7 +42,7 @@ overflow_sub-result c =
     let count : ℕ = (c.position_of-at.result / 0x1000 - c.args.self.pitch_counter % 0x4000 / 0x1000) in
     let take-is : c.if-due.take ≡ least count c.if-fill-eq0.room = (let n = count in
     let r = c.if-fill-eq0.room in
-    ⊎_elim (λ w. w.1 ∙ sym (least_top n r (leb-true r n w.0.taken))) (λ w. let l : n ≤ r = omega (arith, leb-false r n w.0.left) in w.1 ∙ rw (le-leb n r l)) c.if-due.branch) in
+    elim c.if-due.branch [ then-due w ↦ w.take-is ∙ sym (least_top n r w.if-due.true) | else-due w ↦ let l : n ≤ r = omega (arith, w.if-due.false) in w.take-is ∙ rw (le-leb n r l) ]) in
     let take_le : (c.if-due.take ≤ count) × (c.if-due.take ≤ c.if-fill-eq0.room) = (let h = least-both count c.if-fill-eq0.room in rw take-is (h.0, h.1)) in
     take_le.0
 
@@ -51,10 +51,10 @@ unfolding samples_taken
 returns c v e f endx pitch fill =
     let sixteen : Sixteen c.args.self = (search rules) in
     let count : ℕ = (c.position_of-at.result / 0x1000 - c.args.self.pitch_counter % 0x4000 / 0x1000) in
-    let room_is : c.if-fill-eq0.room ≡ room c.args.fill c.args.self.nibble_idx = (⊎_elim (λ w. w.1 ∙ rw (eq-eqb _ _ w.0.taken)) (λ w. w.2 ∙ rw (ne_eqb _ _ w.0.left)) c.if-fill-eq0.branch) in
+    let room_is : c.if-fill-eq0.room ≡ room c.args.fill c.args.self.nibble_idx = (elim c.if-fill-eq0.branch [ then-fill-eq0 w ↦ w.room-is ∙ rw (eq-eqb _ _ w.if-fill-eq0.true) | else-fill-eq0 w ↦ w.room-is ∙ rw (ne_eqb _ _ w.if-fill-eq0.false) ]) in
     let take-is : c.if-due.take ≡ least count c.if-fill-eq0.room = (let n = count in
     let r = c.if-fill-eq0.room in
-    ⊎_elim (λ w. w.1 ∙ sym (least_top n r (leb-true r n w.0.taken))) (λ w. let l : n ≤ r = omega (arith, leb-false r n w.0.left) in w.1 ∙ rw (le-leb n r l)) c.if-due.branch) in
+    elim c.if-due.branch [ then-due w ↦ w.take-is ∙ sym (least_top n r w.if-due.true) | else-due w ↦ let l : n ≤ r = omega (arith, w.if-due.false) in w.take-is ∙ rw (le-leb n r l) ]) in
     let a = c.args in
     let x = as_source a.source in
     let s = as_sounding v e a.self f a.samples.now endx in

@@ -23,5 +23,5 @@ returns c = let l = c.loop-i in
     let a = c.args in
     let e : l.i ≡ a.self.nibble_idx + a.n = omega (arith, l.invariant.0, c.loop-i-test.false) in
     λ v y f endx.
-    ap (λ (k : ℕ). as_sounding v y (heard_to a.self k (to_z w16 l.a) (to_z w16 l.b) (to_z w16 l.c) (to_z w16 l.d)) f a.samples.now endx) (sym e)
+    ap (λ (k : ℕ). as_sounding v y (heard_to a.self k (to_z w16 l.a-bits) (to_z w16 l.b-bits) (to_z w16 l.c-bits) (to_z w16 l.d-bits)) f a.samples.now endx) (sym e)
     ∙ all-heard _ _ _ _ _ (omega (arith, e)) l.invariant.1 v y f endx

@@ -11,7 +11,7 @@ use Rattle.dsp.proofs.Plays.{history_read, heard_to, Hearing, none_heard, one_he
 use Rattle.dsp.proofs.play.Play.heard.Given as goal
 
 abbrev pub invariant-loop-i : goal.invariant-loop-i
-invariant-loop-i l = (l.i ≤ l.end) × Hearing l.samples l.n l.self (l.end - l.i) (heard_to l.self l.i (to_z w16 l.a) (to_z w16 l.b) (to_z w16 l.c) (to_z w16 l.d))
+invariant-loop-i l = (l.i ≤ l.end) × Hearing l.samples l.n l.self (l.end - l.i) (heard_to l.self l.i l.a l.b l.c l.d)
 
 abbrev pub decreases-loop-i : goal.decreases-loop-i
 decreases-loop-i l = l.end - l.i

@@ -28,7 +28,7 @@ slice_bounds-drive-end-6 c = sym c.bytes-bytes.type_inv.1.0.1
 
 pub drive-k-requires : goal.drive-k-requires
 drive-k-requires c =
-    let inArrays : Parts = (parts_in (record { c = c.far-far.result; envelopes = c.envelopes_of-envelopes.result; plays = c.plays_of-plays.result; feeds = c.feeds_of-feeds.result })
+    let inArrays : Parts = (parts_in (record { far = c.far-far.result; envelopes = c.envelopes_of-envelopes.result; plays = c.plays_of-plays.result; feeds = c.feeds_of-feeds.result })
     c.dials_of-dials.result
     c.taps-taps.result
     c.currents_of-currents.result
@@ -44,12 +44,13 @@ drive-k-requires c =
     record {
       registers = c.bytes-bytes.ensures i;
       voices = voices i;
-      c = c.delays-delays.ensures i;
+      delays = c.delays-delays.ensures i;
       taps = c.taps-taps.ensures i;
       left = c.far-far.ensures.1 i;
       right = c.far-far.ensures.2 i;
       globals = c.far-far.ensures.0 i;
-    }) in (
+    }) in
+    (
       c.gauss_table-table.ensures,
       c.rate_table-rates.ensures,
       c.currents_of-currents.type_inv.1.0.1,
@@ -66,7 +67,7 @@ drive-k-requires c =
 
 pub returns : goal.returns
 returns c =
-    let inArrays : Parts = (parts_in (record { c = c.far-far.result; envelopes = c.envelopes_of-envelopes.result; plays = c.plays_of-plays.result; feeds = c.feeds_of-feeds.result })
+    let inArrays : Parts = (parts_in (record { far = c.far-far.result; envelopes = c.envelopes_of-envelopes.result; plays = c.plays_of-plays.result; feeds = c.feeds_of-feeds.result })
     c.dials_of-dials.result
     c.taps-taps.result
     c.currents_of-currents.result
@@ -82,7 +83,7 @@ returns c =
     record {
       registers = c.bytes-bytes.ensures i;
       voices = voices i;
-      c = c.delays-delays.ensures i;
+      delays = c.delays-delays.ensures i;
       taps = c.taps-taps.ensures i;
       left = c.far-far.ensures.1 i;
       right = c.far-far.ensures.2 i;

@@ -3,14 +3,10 @@ use borrow.Author.Rules.{rules}
 use mathlib.Core.List.{[], ◌∷◌}
 use native.Mathlib.Omega.{arith}
 use Rattle.numbers.proofs.Bits.{top_bit}
+use mir.Syntax.{w8}
+use Rattle.numbers.proofs.Range.{landed}
 use Rattle.dsp.proofs.Writes.{none_eqb}
 use Rattle.dsp.proofs.voice.Voice.write.Goals as goal
-
-pub returns-in-0 : goal.returns-in-0
-returns-in-0 c = rw (c.in-0.is, c.signed8.ensures)
-
-pub returns-in-1 : goal.returns-in-1
-returns-in-1 c = rw (c.in-1.is, c.signed8-in-1.ensures)
 
 pub returns-in-2 : goal.returns-in-2
 returns-in-2 c = rw (c.in-2.is, c.with_low.ensures)
@@ -32,3 +28,9 @@ returns-in-7 c = rw c.in-7.is
 
 pub returns-in_default : goal.returns-in_default
 returns-in_default c = let e = none_eqb (7 ∷ 6 ∷ 5 ∷ 4 ∷ 3 ∷ 2 ∷ 1 ∷ 0 ∷ []) _ c.in_default.in_default-own.rest in simp e
+
+pub returns-in-0 : goal.returns-in-0
+returns-in-0 c = rw (landed w8 {z = c.signed8.result} c.signed8.type_inv, c.in-0.is, c.signed8.ensures)
+
+pub returns-in-1 : goal.returns-in-1
+returns-in-1 c = rw (landed w8 {z = c.signed8-in-1.result} c.signed8-in-1.type_inv, c.in-1.is, c.signed8-in-1.ensures)
