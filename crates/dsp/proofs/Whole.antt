@@ -56,7 +56,10 @@ dry-after old c ram (suc n) r l f e =
     let y = (own_cell c ram n s.sums.prev (get_or s.voices n no_voice) (get_or s.delays n 0) s.bytes).voice in
     let before = sym (dry-before s.voices y n ∙ sym (dry-after old c ram n r (omega arith) f e)) in
     let here = sym (set_here no_voice s.voices n y (omega arith)) in
-    rw (full n (omega arith)) (λ i. with_output (before i) (here i))
+    let after = turn 0xFF old c ram n s in
+    let voices : after.voices ≡ set s.voices n y = rw (full n (omega arith)) in
+    let dry : after.sums.dry ≡ with_output s.sums.dry y = rw (full n (omega arith)) in
+    dry ∙ (λ i. with_output (before i) (here i)) ∙ sym (ap (λ (vs : List Voice). dry_up_to vs (suc n)) voices)
 
 -- the sample of a tick is the stereo sample of the record that it leaves
 pub tick_renders : (d : Dsp) (ram old : List ℕ) → length ram ≡ 0x10000 → length d.registers ≡ 128 → length d.voices ≡ 8 → length d.kon_delay ≡ 8 → Fit d

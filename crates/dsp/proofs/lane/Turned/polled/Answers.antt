@@ -46,7 +46,7 @@ returns-then-bit c =
     let a = c.args in
     let kon = sym (rw (mod-eq_of_lt c.requires.3) at c.bit.ensures) ∙ c.if-bit.true in
     let here = get_or-set_same a.currents.now a.j (pos 0) (pos 0) (omega (arith, c.requires.0, c.requires.3)) in (
-      λ v samples endx e. rw (kon, on_over_off (bit a.c.koff a.j) a.c.dir_base v, here) (ap (sounding false) (anew v _ samples e)),
+      λ v samples endx e. rw (kon, on_over_off (bit a.c.koff a.j) a.c.dir_base (restored (with_sample v (get_or a.currents.now a.j (pos 0))) a.self.envelope a.self.play a.self.feed (get_or a.currents.now a.j (pos 0)) samples), here) (ap (sounding false) (anew v (get_or a.currents.now a.j (pos 0)) samples e)),
       rw kon,
       rw kon,
       rw kon c.put_endx.ensures,
