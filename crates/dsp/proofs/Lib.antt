@@ -22,5 +22,6 @@ pub mod Apart
 pub mod Made
 pub mod Steps
 pub mod Turning
+pub mod Stepping
 pub mod Logs
 pub mod Playing
