@@ -8,7 +8,6 @@ use borrow.Author.Tests.{eq-eqb, ne_eqb, le-ltb}
 use Rattle.numbers.specs.Choice.{◌=?◌}
 use Rattle.numbers.proofs.Choice.{chosen}
 use Rattle.dsp.specs.Machine.{together}
-use Rattle.dsp.specs.Fit.{fit}
 use Rattle.dsp.specs.Registers.{write_at}
 use Rattle.dsp.specs.Tick.{everything}
 use Rattle.dsp.specs.Ticks.{Bench, bench_of}

@@ -1,5 +1,4 @@
 -- The marks in their order.
-use borrow.Author.Rules.{rules}
 use lib.ListN.{length}
 use borrow.Author.Tests.{eq-eqb, ne_eqb}
 use mathlib.Core.Path.{◌∙◌}

@@ -1,5 +1,4 @@
 -- By the test.
-use borrow.Author.Rules.{rules}
 use borrow.Author.Tests.{eq-eqb, ne_eqb}
 use Rattle.chip_log.proofs.ended.Goals as goal
 

@@ -1,11 +1,9 @@
 -- What is left from each place gives the whole answer. The measure is the bytes that are left.
-use borrow.Author.Rules.{rules}
-use Prim.Native.Nat.{◌+◌, ◌-◌, ◌<◌}
+use Prim.Native.Nat.{◌+◌, ◌<◌}
 use native.Mathlib.Omega.{arith}
-use lib.ListN.{length}
 use borrow.Author.Tests.{le-ltb, lt-ltb}
 use Rattle.chip_log.specs.Measure.{measure_of, ticks_in}
-use Rattle.chip_log.proofs.Turn.{Here, here_first, stop, over, turn}
+use Rattle.chip_log.proofs.Turn.{here_first, stop, over, turn}
 use Rattle.chip_log.proofs.measure.Goals as goal
 
 pub returns-then-log-gt-LOG_MOST : goal.returns-then-log-gt-LOG_MOST

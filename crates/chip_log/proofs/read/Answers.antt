@@ -1,5 +1,4 @@
 -- The end, a lone byte, then the mark.
-use borrow.Author.Rules.{rules}
 use Prim.Native.Nat.{◌-◌}
 use lib.ListN.{length}
 use borrow.Author.Tests.{le-leb, lt-leb}

@@ -1,5 +1,5 @@
 -- By the bit; the mask is a power of two below 256.
-use Rattle.std.proofs.Common.{◌≡◌, ℕ, ◌%◌, ◌^◌, ◌<◌, mod-eq_of_lt, one-mul, arith, rules}
+use Rattle.std.proofs.Common.{◌≡◌, ℕ, ◌%◌, ◌^◌, ◌<◌, mod-eq_of_lt, one-mul, arith}
 use lib.Pow.{pow-lt}
 use Rattle.numbers.proofs.Bits.{or_with, and_with_byte}
 use Rattle.numbers.proofs.with_bit.Goals as goal

@@ -1,5 +1,4 @@
 -- The ranges are computed; the last call's result is bounded by its type.
-use borrow.Author.Rules.{rules}
 use mir.Syntax.{w16}
 use Rattle.numbers.proofs.Range.{fits, reads, q_call, q_read}
 use Rattle.numbers.proofs.Clamp.{calls}

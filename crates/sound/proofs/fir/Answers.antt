@@ -1,5 +1,4 @@
 -- What both cuts give is named; the ranges are computed.
-use borrow.Author.Rules.{rules}
 use mathlib.Core.Path.{refl}
 use native.Mathlib.Nat.{le_refl}
 use mir.Syntax.{w16, w32}

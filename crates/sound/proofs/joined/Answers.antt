@@ -1,5 +1,4 @@
 -- The ranges are computed.
-use borrow.Author.Rules.{rules}
 use Rattle.numbers.proofs.Range.{fits, reads, q_nat, q_unsigned}
 use Rattle.numbers.proofs.Clamp.{calls}
 use Rattle.sound.proofs.joined.Goals as goal

@@ -1,5 +1,4 @@
 -- Each element lands in the new array as it is: the seven behind the first, and the new one.
-use borrow.Author.Rules.{rules}
 use mathlib.Core.List.{List, [], ◌∷◌, ◌++◌}
 use mathlib.Core.Path.{◌≡◌, refl, sym, ap, ◌∙◌}
 use lib.IntN.{ℤ, pos}

@@ -1,5 +1,4 @@
 -- The ranges are computed.
-use borrow.Author.Rules.{rules}
 use Rattle.numbers.proofs.Range.{fits, reads}
 use Rattle.numbers.proofs.Clamp.{calls}
 use Rattle.sound.proofs.volumed16.Goals as goal

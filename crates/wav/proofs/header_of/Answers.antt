@@ -1,5 +1,4 @@
 -- Field by field.
-use borrow.Author.Rules.{rules}
 use mathlib.Core.Path.{refl}
 use lib.ListN.{replicate}
 use Rattle.numbers.proofs.Parts.{unwritten, part-put, all_written}

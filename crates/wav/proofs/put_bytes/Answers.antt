@@ -1,12 +1,8 @@
 -- What is written, with what is left of the number behind it, is the number.
 use borrow.Author.Rules.{rules}
-use mathlib.Core.List.{◌++◌}
-use mathlib.Core.Path.{◌≡◌, refl}
-use Prim.Native.Nat.{◌-◌, ◌≤◌}
+use mathlib.Core.Path.{refl}
 use native.Mathlib.Nat.{sub-zero}
 use native.Mathlib.Omega.{arith}
-use lib.ListN.{length, take}
-use Rattle.wav.specs.Wav.{in_bytes}
 use Rattle.wav.proofs.Numbers.{digit_more, digits_all}
 use Rattle.wav.proofs.put_bytes.Goals as goal
 

@@ -1,13 +1,9 @@
 -- What is written, with what is left of the number behind it, is the number.
-use borrow.Author.Rules.{rules}
 use mathlib.Core.List.{◌++◌}
-use mathlib.Core.Path.{◌≡◌, refl}
+use mathlib.Core.Path.{◌≡◌}
 use Prim.Native.Nat.{◌-◌, ◌≤◌}
-use native.Mathlib.Nat.{sub-zero}
-use native.Mathlib.Omega.{arith}
 use lib.ListN.{length, take}
 use Rattle.wav.specs.Wav.{in_bytes}
-use Rattle.wav.proofs.Numbers.{digit_more, digits_all}
 use Rattle.wav.proofs.put_bytes.Given as goal
 
 abbrev pub invariant-loop-i : goal.invariant-loop-i

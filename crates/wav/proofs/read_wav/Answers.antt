@@ -1,5 +1,4 @@
 -- The refusals of the file, then of the destination; then the samples.
-use borrow.Author.Rules.{rules}
 use mathlib.Core.Path.{ap, ◌∙◌}
 use native.Mathlib.Omega.{arith}
 use Rattle.wav.specs.declared.Frames.{Frames}

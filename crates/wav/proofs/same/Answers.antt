@@ -1,9 +1,9 @@
 -- What is left from a place on is the same where the whole is.
 use borrow.Author.Rules.{rules}
-use mathlib.Core.Path.{◌≡◌, refl, sym, ◌∙◌}
-use Prim.Native.Nat.{◌-◌, ◌≤◌, ◌<◌}
+use mathlib.Core.Path.{refl, sym, ◌∙◌}
+use Prim.Native.Nat.{◌<◌}
 use native.Mathlib.Omega.{arith}
-use lib.ListN.{length, drop, drop_of_length-le}
+use lib.ListN.{length, drop_of_length-le}
 use borrow.Author.Tests.{ne_eqb, eq-eqb}
 use Rattle.wav.specs.Wav.{same_bytes}
 use Rattle.wav.proofs.Rows.{same_from}

@@ -1,12 +1,8 @@
 -- What is left from a place on is the same where the whole is.
-use borrow.Author.Rules.{rules}
-use mathlib.Core.Path.{◌≡◌, refl, sym, ◌∙◌}
-use Prim.Native.Nat.{◌-◌, ◌≤◌, ◌<◌}
-use native.Mathlib.Omega.{arith}
-use lib.ListN.{length, drop, drop_of_length-le}
-use borrow.Author.Tests.{ne_eqb, eq-eqb}
+use mathlib.Core.Path.{◌≡◌}
+use Prim.Native.Nat.{◌-◌, ◌≤◌}
+use lib.ListN.{length, drop}
 use Rattle.wav.specs.Wav.{same_bytes}
-use Rattle.wav.proofs.Rows.{same_from}
 use Rattle.wav.proofs.same.Given as goal
 
 abbrev pub invariant-loop-at : goal.invariant-loop-at

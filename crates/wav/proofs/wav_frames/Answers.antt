@@ -1,12 +1,10 @@
 -- By its length, then by its first 44 bytes.
-use borrow.Author.Rules.{rules}
 use mathlib.Core.Bool.{true, false, ◌&&◌}
 use mathlib.Core.Path.{◌≡◌, sym, ap, ◌∙◌}
 use Prim.Native.Nat.{◌-◌}
 use native.Mathlib.Omega.{arith}
 use lib.ListN.{length, take}
 use lib.Seq.{length-take-le}
-use borrow.Author.Tests.{not-true, not-false}
 use Rattle.wav.specs.Wav.{header_of, frames_in, is_sound, same_bytes}
 use Rattle.wav.proofs.Files.{sound_few, header_length, by_header, short_none, not_frames, frames_are}
 use Rattle.wav.proofs.wav_frames.Goals as goal

@@ -1,11 +1,9 @@
 -- The refusals; then the header in the first 44 bytes, and the samples behind it.
-use borrow.Author.Rules.{rules}
 use mathlib.Core.Bool.{true}
 use mathlib.Core.Path.{◌≡◌, sym, ◌∙◌}
 use native.Mathlib.Omega.{arith}
 use lib.ListN.{length}
 use lib.Seq.{length-take-le}
-use borrow.Author.Tests.{not-true, not-false}
 use Rattle.wav.specs.Wav.{is_sound}
 use Rattle.wav.proofs.Files.{sound_few, unsound, no_room, written}
 use Rattle.wav.proofs.write_wav.Goals as goal

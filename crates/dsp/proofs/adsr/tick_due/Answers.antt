@@ -1,5 +1,4 @@
 -- By the period, which stands for that of each entry that has it.
-use borrow.Author.Rules.{rules}
 use borrow.Author.Tests.{le-leb, lt-leb, eq-eqb, ne_eqb}
 use mathlib.Core.Path.{refl}
 use Rattle.dsp.specs.Clock.{fires, counted_on}

@@ -1,14 +1,6 @@
 -- After i bytes the first 2 · i samples stand; `whole` says that 16 are the block.
-use borrow.Author.Rules.{rules}
-use mathlib.Core.Path.{◌≡◌, ◌∙◌}
 use Prim.Native.Nat.{◌≤◌, ◌-◌, ◌*◌}
-use native.Mathlib.Omega.{arith}
-use lib.ListN.{length-set}
-use mir.Syntax.{w16}
-use mir.Val.{to_z}
-use mir.Facts.{to_z-of_z}
-use Rattle.numbers.proofs.Range.{landed}
-use Rattle.dsp.proofs.Blocks.{UpTo, none, two_more, whole}
+use Rattle.dsp.proofs.Blocks.{UpTo}
 use Rattle.dsp.proofs.brr.decode_brr_block.Given as goal
 
 abbrev pub invariant-loop-i : goal.invariant-loop-i

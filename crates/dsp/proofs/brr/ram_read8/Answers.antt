@@ -1,5 +1,4 @@
 -- The wrapping sum is the sum modulo 65,536.
-use borrow.Author.Rules.{rules}
 use Rattle.dsp.specs.Ram.{byte_at}
 use Rattle.dsp.proofs.brr.ram_read8.Goals as goal
 

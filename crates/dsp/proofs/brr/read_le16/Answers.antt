@@ -1,5 +1,4 @@
 -- Two bytes.
-use borrow.Author.Rules.{rules}
 use native.Mathlib.Nat.{add_assoc}
 use Rattle.dsp.specs.Ram.{word_at}
 use Rattle.dsp.proofs.brr.read_le16.Goals as goal

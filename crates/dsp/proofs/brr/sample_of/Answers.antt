@@ -1,5 +1,4 @@
 -- What the decoder reads back is what it was given.
-use borrow.Author.Rules.{rules}
 use native.Mathlib.Omega.{arith}
 use mir.Syntax.{w8, w16}
 use mir.ValLaws.{to_z_pos}

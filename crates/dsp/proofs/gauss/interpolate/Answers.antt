@@ -1,5 +1,4 @@
 -- The sum of three, the fourth and the clamped sum are named; the ranges are computed.
-use borrow.Author.Rules.{rules}
 use mathlib.Core.Path.{◌≡◌}
 use Prim.Native.Nat.{ℕ, ◌+◌, ◌-◌, ◌/◌, ◌%◌, ◌<◌}
 use lib.IntN.{ℤ, pos}

@@ -1,5 +1,4 @@
 -- The callees, with the read-backs removed; the store of OUTX leaves the ENDX byte.
-use borrow.Author.Rules.{rules}
 use native.Mathlib.Nat.{mod-eq_of_lt}
 use native.Mathlib.Omega.{arith}
 use Prim.Native.Nat.{◌+◌, ◌*◌}

@@ -1,5 +1,4 @@
 -- One store; j is below 8.
-use borrow.Author.Rules.{rules}
 use native.Mathlib.Nat.{mod-eq_of_lt}
 use Rattle.dsp.proofs.lane.put_endx.Goals as goal
 

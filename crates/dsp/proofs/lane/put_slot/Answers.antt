@@ -1,5 +1,4 @@
 -- Four stores fill the lane; the output has 16 bits.
-use borrow.Author.Rules.{rules}
 use mathlib.Core.List.{[], ◌∷◌}
 use mathlib.Core.Path.{◌∙◌}
 use mir.Facts.{to_z-of_z}

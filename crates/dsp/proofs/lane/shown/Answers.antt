@@ -1,5 +1,4 @@
 -- The callees, with the read-backs removed.
-use borrow.Author.Rules.{rules}
 use native.Mathlib.Nat.{mod-eq_of_lt}
 use native.Mathlib.Omega.{arith}
 use mathlib.Core.Path.{◌∙◌}

@@ -1,15 +1,8 @@
 -- After n turns the sums are n turns of the definition.
-use borrow.Author.Rules.{rules}
-use mathlib.Core.Path.{◌≡◌, refl, ◌∙◌}
+use mathlib.Core.Path.{◌≡◌}
 use Prim.Native.Nat.{◌≤◌, ◌-◌}
-use native.Mathlib.Omega.{arith}
-use native.Mathlib.Numerals.{add-one}
-use lib.ListN.{length}
-use mir.Syntax.{w16}
-use Rattle.numbers.proofs.Range.{landed}
-use Rattle.numbers.specs.Listed.{turns}
 use Rattle.dsp.specs.Inside.{as_stereo}
-use Rattle.dsp.proofs.Outputs.{dry_up_to, dry_whole}
+use Rattle.dsp.proofs.Outputs.{dry_up_to}
 use Rattle.dsp.proofs.mix.dry.Given as goal
 
 abbrev pub invariant-loop-n : goal.invariant-loop-n

@@ -1,5 +1,4 @@
 -- By the phase; the ranges are computed.
-use borrow.Author.Rules.{rules}
 use Rattle.numbers.proofs.Range.{fits, reads, quotes}
 use Rattle.dsp.specs.Mix.{scaled_output}
 use Rattle.dsp.proofs.Outputs.{q_level}

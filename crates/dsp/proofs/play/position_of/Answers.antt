@@ -1,5 +1,4 @@
 -- By the cap.
-use borrow.Author.Rules.{rules}
 use borrow.Author.Tests.{le-leb, lt-leb}
 use Rattle.dsp.specs.Voice.{position_of}
 use Rattle.dsp.proofs.play.position_of.Goals as goal

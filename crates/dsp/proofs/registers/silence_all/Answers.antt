@@ -1,16 +1,14 @@
 -- After n turns the first n voices are silenced.
 use borrow.Author.Rules.{rules}
-use mathlib.Core.List.{List}
 use mathlib.Core.Path.{◌≡◌, refl, ◌∙◌, ap}
-use Prim.Native.Nat.{ℕ, ◌≤◌, ◌-◌}
+use Prim.Native.Nat.{ℕ}
 use native.Mathlib.Numerals.{add-one}
 use native.Mathlib.Omega.{arith}
-use lib.ListN.{get_or, length, set}
+use lib.ListN.{length}
 use Rattle.numbers.specs.Listed.{turns}
 use Rattle.numbers.proofs.Turns.{mapped_turns}
 use Rattle.dsp.specs.Machine.{no_voice}
 use Rattle.dsp.specs.Keys.{silenced}
-use Rattle.dsp.specs.declared.voice.Voice.{Voice}
 use Rattle.dsp.proofs.registers.silence_all.Invariants.{silence_voice}
 use Rattle.dsp.proofs.registers.silence_all.Goals as goal
 

@@ -1,8 +1,6 @@
 -- After n turns the first n envelopes are cut and the first n plays have key_on clear; the rest is as it came.
 use borrow.Author.Rules.{rules}
-use Prim.Native.Nat.{◌-◌}
-use Rattle.dsp.specs.Inside.{cut_envelope, hushed_play, no_envelope, no_play}
-use Rattle.dsp.proofs.Arrays.{Changed, none_changed, one_changed, all_changed}
+use Rattle.dsp.proofs.Arrays.{none_changed, one_changed, all_changed}
 use Rattle.dsp.proofs.run.hush.Goals as goal
 
 pub loop-n-init : goal.loop-n-init

@@ -1,31 +1,10 @@
 -- The record is taken apart into arrays that stand for it (Made); each record of the log moves them on (Logs); where the log ends they are made
 -- into a record again.
-use borrow.Author.Rules.{rules}
-use mathlib.Core.Bool.{◌&&◌}
-use mathlib.Core.List.{List, []}
-use mathlib.Core.Path.{◌≡◌, refl, sym, ap, subst, ◌∙◌}
-use Prim.Native.Nat.{ℕ, ◌+◌, ◌-◌, ◌*◌, ◌/◌, ◌≤◌, ◌<◌}
-use native.Mathlib.Omega.{arith}
-use lib.ListN.{length, set, length-map}
-use borrow.Rule.Slice.PartMut.{mid_len}
-use Rattle.numbers.specs.Choice.{if◌then◌else◌, ◌=?◌, ◌≤?◌}
-use Rattle.dsp.specs.Machine.{Parts, apart, together}
-use Rattle.dsp.specs.Registers.{resets}
+use Prim.Native.Nat.{◌-◌}
+use lib.ListN.{length}
 use Rattle.dsp.specs.Play.{starting}
-use Rattle.dsp.specs.Inside.{as_globals, voices_in}
-use Rattle.dsp.specs.declared.adsr.Envelope.{Envelope}
-use Rattle.dsp.specs.declared.play.Play.{Play}
-use Rattle.dsp.specs.declared.voice.Voice.{Voice}
-use Rattle.dsp.proofs.Apart.{Arrays, arrays, Sized, parts_from}
-use Rattle.dsp.proofs.Made.{histories, dials_wound, voices-again}
-use Rattle.dsp.proofs.Ticks.{BenchFit, bench-fit}
-use Rattle.dsp.proofs.Writes.{reset_tested}
-use Rattle.dsp.proofs.Logs.{Playing, standing, bench_now, Between, started, room, finished, hushed_arrays, on_write, on_ticks, on_reading}
-use Rattle.chip_log.specs.Log.{Known}
-use Rattle.chip_log.specs.Measure.{ticks_in, readings_in}
-use Rattle.chip_log.specs.declared.Record.{Record}
-use Rattle.chip_log.specs.declared.Record.TheVariants.{Write, Ticks, Reading}
-use Rattle.chip_log.proofs.Turn.{Turned, turned}
+use Rattle.dsp.proofs.Apart.{arrays}
+use Rattle.dsp.proofs.Logs.{Between}
 use Rattle.dsp.proofs.run.play_all.Given as goal
 
 abbrev pub invariant-loop-found : goal.invariant-loop-found

@@ -1,10 +1,9 @@
 -- By the refusals, in their order; then the log's records.
-use borrow.Author.Rules.{rules}
 use mathlib.Core.Bool.{true}
 use mathlib.Core.Path.{◌≡◌, sym, ◌∙◌}
 use native.Mathlib.Omega.{arith}
 use lib.ListN.{length}
-use borrow.Author.Tests.{eq-eqb, ne_eqb, not-true, not-false}
+use borrow.Author.Tests.{eq-eqb, ne_eqb}
 use Rattle.chip_log.proofs.Turn.{taken}
 use Rattle.dsp.specs.Fit.{fit}
 use Rattle.dsp.specs.Run.{ran, run_measured, run_with}

@@ -1,10 +1,9 @@
 -- After n turns the first n current samples are those of the voices.
 use borrow.Author.Rules.{rules}
-use Prim.Native.Nat.{◌-◌}
 use mir.Syntax.{w16}
 use Rattle.numbers.proofs.Range.{landed}
 use Rattle.dsp.specs.Machine.{no_voice}
-use Rattle.dsp.proofs.Arrays.{Mapped, none_mapped, one_mapped, all_mapped}
+use Rattle.dsp.proofs.Arrays.{none_mapped, one_mapped, all_mapped}
 use Rattle.dsp.proofs.tick.currents_of.Goals as goal
 
 pub loop-n-init : goal.loop-n-init

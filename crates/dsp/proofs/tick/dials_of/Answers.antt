@@ -1,11 +1,9 @@
 -- After n turns the first n dials are those of the voices, which are fit.
 use borrow.Author.Rules.{rules}
-use Prim.Native.Nat.{◌-◌}
 use lib.ListN.{get_or}
 use Rattle.dsp.specs.Machine.{no_voice}
-use Rattle.dsp.specs.Inside.{dial_of}
 use Rattle.dsp.proofs.Fits.{adsr_fit}
-use Rattle.dsp.proofs.Arrays.{Mapped, none_mapped, one_mapped, all_mapped}
+use Rattle.dsp.proofs.Arrays.{none_mapped, one_mapped, all_mapped}
 use Rattle.dsp.proofs.tick.dials_of.Goals as goal
 
 pub dial-d-requires : goal.dial-d-requires

@@ -1,11 +1,7 @@
 -- After n turns the first n dials are those of the voices, which are fit.
-use borrow.Author.Rules.{rules}
 use Prim.Native.Nat.{◌-◌}
-use lib.ListN.{get_or}
-use Rattle.dsp.specs.Machine.{no_voice}
 use Rattle.dsp.specs.Inside.{dial_of}
-use Rattle.dsp.proofs.Fits.{adsr_fit}
-use Rattle.dsp.proofs.Arrays.{Mapped, none_mapped, one_mapped, all_mapped}
+use Rattle.dsp.proofs.Arrays.{Mapped}
 use Rattle.dsp.proofs.tick.dials_of.Given as goal
 
 abbrev pub invariant-loop-n : goal.invariant-loop-n

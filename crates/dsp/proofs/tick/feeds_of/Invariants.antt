@@ -1,9 +1,7 @@
 -- After n turns the first n feeds are those of the voices.
-use borrow.Author.Rules.{rules}
 use Prim.Native.Nat.{◌-◌}
-use Rattle.dsp.specs.Machine.{no_voice}
 use Rattle.dsp.specs.Inside.{feed_of}
-use Rattle.dsp.proofs.Arrays.{Mapped, none_mapped, one_mapped, all_mapped}
+use Rattle.dsp.proofs.Arrays.{Mapped}
 use Rattle.dsp.proofs.tick.feeds_of.Given as goal
 
 abbrev pub invariant-loop-n : goal.invariant-loop-n

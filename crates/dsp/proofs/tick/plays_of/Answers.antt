@@ -1,9 +1,7 @@
 -- After n turns the first n plays are those of the voices.
 use borrow.Author.Rules.{rules}
-use Prim.Native.Nat.{◌-◌}
 use Rattle.dsp.specs.Machine.{no_voice}
-use Rattle.dsp.specs.Inside.{play_of}
-use Rattle.dsp.proofs.Arrays.{Mapped, none_mapped, one_mapped, all_mapped}
+use Rattle.dsp.proofs.Arrays.{none_mapped, one_mapped, all_mapped}
 use Rattle.dsp.proofs.tick.plays_of.Goals as goal
 
 pub loop-n-init : goal.loop-n-init

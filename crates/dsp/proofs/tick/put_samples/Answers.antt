@@ -2,7 +2,7 @@
 use borrow.Author.Rules.{rules}
 use mathlib.Core.List.{[], ◌∷◌, ◌++◌}
 use mathlib.Core.Path.{◌≡◌, ◌∙◌}
-use Prim.Native.Nat.{◌+◌, ◌-◌, ◌≤◌, ◌<◌}
+use Prim.Native.Nat.{◌+◌, ◌<◌}
 use native.Mathlib.Omega.{arith}
 use native.Mathlib.Numerals.{add-one}
 use lib.IntN.{pos}
@@ -10,7 +10,7 @@ use lib.ListN.{get_or, take}
 use lib.Seq.{take-suc, take_all}
 use mir.Syntax.{w16}
 use Rattle.numbers.proofs.Range.{landed}
-use Rattle.numbers.proofs.Parts.{Written, unwritten, sized, stored, all_written}
+use Rattle.numbers.proofs.Parts.{unwritten, sized, stored, all_written}
 use Rattle.dsp.proofs.tick.put_samples.Goals as goal
 
 pub loop-k-init : goal.loop-k-init

@@ -1,16 +1,7 @@
 -- After k stores the first k are those of the other list.
-use borrow.Author.Rules.{rules}
-use mathlib.Core.List.{[], ◌∷◌, ◌++◌}
-use mathlib.Core.Path.{◌≡◌, ◌∙◌}
-use Prim.Native.Nat.{◌+◌, ◌-◌, ◌≤◌, ◌<◌}
-use native.Mathlib.Omega.{arith}
-use native.Mathlib.Numerals.{add-one}
-use lib.IntN.{pos}
-use lib.ListN.{get_or, take}
-use lib.Seq.{take-suc, take_all}
-use mir.Syntax.{w16}
-use Rattle.numbers.proofs.Range.{landed}
-use Rattle.numbers.proofs.Parts.{Written, unwritten, sized, stored, all_written}
+use Prim.Native.Nat.{◌-◌, ◌≤◌}
+use lib.ListN.{take}
+use Rattle.numbers.proofs.Parts.{Written}
 use Rattle.dsp.proofs.tick.put_samples.Given as goal
 
 abbrev pub invariant-loop-k : goal.invariant-loop-k

@@ -1,11 +1,10 @@
 -- After n voices the first n parts of the store are their samples.
 use borrow.Author.Rules.{rules}
 use mathlib.Core.Path.{◌≡◌, refl, ap, ◌∙◌}
-use Prim.Native.Nat.{ℕ, ◌+◌, ◌-◌, ◌*◌, ◌≤◌, ◌<◌}
+use Prim.Native.Nat.{◌+◌, ◌*◌, ◌≤◌}
 use native.Mathlib.Omega.{arith}
 use lib.ListN.{get_or, length}
 use Rattle.dsp.specs.Machine.{no_voice}
-use Rattle.dsp.specs.Inside.{samples_at}
 use Rattle.dsp.proofs.Store.{samples-length, part_span, store_length, parts_more}
 use Rattle.dsp.proofs.tick.store_of.Goals as goal
 

@@ -1,23 +1,17 @@
 -- After n voices the first n of the list are those that the arrays stand for.
-use borrow.Author.Rules.{rules}
-use mathlib.Core.List.{List, [], ◌∷◌, ◌++◌}
-use mathlib.Core.Path.{◌≡◌, refl, ap, ◌∙◌}
-use Prim.Native.Nat.{ℕ, ◌+◌, ◌-◌, ◌*◌, ◌≤◌}
-use native.Mathlib.Omega.{arith}
-use native.Mathlib.Numerals.{add-one}
+use mathlib.Core.List.{List}
+use mathlib.Core.Path.{◌≡◌}
+use Prim.Native.Nat.{ℕ, ◌-◌, ◌≤◌}
 use lib.IntN.{ℤ, pos}
-use lib.ListN.{get_or, length, take, drop}
-use mir.Syntax.{w16}
-use Rattle.numbers.proofs.Range.{landed}
+use lib.ListN.{get_or, length}
 use Rattle.numbers.specs.Listed.{listed}
-use Rattle.numbers.proofs.Parts.{Written, unwritten, stored, all_written}
-use Rattle.dsp.specs.Inside.{as_voice, no_dial, no_envelope, no_play, no_feed, samples_at, voices_in}
+use Rattle.numbers.proofs.Parts.{Written}
+use Rattle.dsp.specs.Inside.{as_voice, no_dial, no_envelope, no_play, no_feed, samples_at}
 use Rattle.dsp.specs.declared.adsr.Envelope.{Envelope}
 use Rattle.dsp.specs.declared.lane.Dial.{Dial}
 use Rattle.dsp.specs.declared.play.Play.{Play}
 use Rattle.dsp.specs.declared.play.Feed.{Feed}
 use Rattle.dsp.specs.declared.voice.Voice.{Voice}
-use Rattle.dsp.proofs.Store.{samples-length, part_span}
 use Rattle.dsp.proofs.tick.voices_of.Given as goal
 
 abbrev pub voice_in : List Dial → List Envelope → List Play → List Feed → List ℤ → List ℤ → ℕ → Voice

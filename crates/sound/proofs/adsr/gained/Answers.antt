@@ -1,5 +1,4 @@
 -- By the mode.
-use borrow.Author.Rules.{rules}
 use borrow.Author.Tests.{lt-ltb, le-ltb, ne_eqb}
 use Rattle.sound.specs.Envelope.{gained}
 use Rattle.sound.proofs.adsr.gained.Goals as goal

@@ -1,5 +1,4 @@
 -- The difference that stops at 0.
-use borrow.Author.Rules.{rules}
 use Rattle.sound.specs.Envelope.{lowered}
 use Rattle.sound.proofs.adsr.lowered.Goals as goal
 

@@ -1,5 +1,4 @@
 -- The cap before the sum changes nothing; it keeps the sum within 16 bits.
-use borrow.Author.Rules.{rules}
 use native.Mathlib.Omega.{arith}
 use Rattle.numbers.proofs.Choice.{least_le, least-before}
 use Rattle.sound.proofs.adsr.raised.Goals as goal

@@ -1,5 +1,4 @@
 -- The ranges and the read-backs are computed.
-use borrow.Author.Rules.{rules}
 use Rattle.numbers.proofs.Range.{fits, reads}
 use Rattle.sound.proofs.Nibbles.{nibbles}
 use Rattle.sound.proofs.brr.decode_brr_nibble.Goals as goal

@@ -1,5 +1,4 @@
 -- A power up to 4096.
-use borrow.Author.Rules.{rules}
 use Rattle.numbers.proofs.Range.{fits, quotes}
 use Rattle.sound.proofs.Nibbles.{pow_small, pow_reads, q_pow2}
 use Rattle.sound.proofs.brr.pow2.Goals as goal

@@ -1,5 +1,4 @@
 -- By the tests; the ranges are computed.
-use borrow.Author.Rules.{rules}
 use mathlib.Core.Path.{◌≡◌}
 use borrow.Author.Tests.{le-leb, lt-leb}
 use mir.Syntax.{w32}

@@ -1,5 +1,4 @@
 -- By the test of the two bits.
-use borrow.Author.Rules.{rules}
 use native.Mathlib.Omega.{arith}
 use borrow.Author.Tests.{eq-eqb, ne_eqb}
 use Rattle.sound.specs.Noise.{shifted}

@@ -1,5 +1,4 @@
 -- A timed step, as the clock's callee tells it.
-use borrow.Author.Rules.{rules}
 use mathlib.Core.Path.{sym}
 use Rattle.dsp.specs.Envelope.{decay_tick}
 use Rattle.dsp.proofs.adsr.Envelope.decay.Goals as goal

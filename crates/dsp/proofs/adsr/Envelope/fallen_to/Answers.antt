@@ -1,5 +1,4 @@
 -- By the test.
-use borrow.Author.Rules.{rules}
 use borrow.Author.Tests.{eq-eqb, ne_eqb}
 use Rattle.dsp.specs.Envelope.{fallen_to}
 use Rattle.dsp.proofs.adsr.Envelope.fallen_to.Goals as goal

@@ -1,5 +1,4 @@
 -- The difference that stops at 0.
-use borrow.Author.Rules.{rules}
 use Rattle.dsp.specs.Envelope.{release_tick}
 use Rattle.dsp.proofs.adsr.Envelope.release.Goals as goal
 

@@ -1,5 +1,4 @@
 -- By the test.
-use borrow.Author.Rules.{rules}
 use borrow.Author.Tests.{le-leb, lt-leb}
 use Rattle.dsp.specs.Envelope.{risen}
 use Rattle.dsp.proofs.adsr.Envelope.risen.Goals as goal

@@ -1,5 +1,4 @@
 -- As the callee says, both samples read back.
-use borrow.Author.Rules.{rules}
 use mir.Syntax.{w16}
 use mir.Facts.{to_z-of_z}
 use Rattle.numbers.proofs.Range.{landed}

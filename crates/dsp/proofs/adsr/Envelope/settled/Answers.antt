@@ -1,5 +1,4 @@
 -- By the test, with the lowered level in its place.
-use borrow.Author.Rules.{rules}
 use borrow.Author.Tests.{le-leb, lt-leb}
 use Rattle.dsp.specs.Envelope.{settled}
 use Rattle.dsp.proofs.adsr.Envelope.settled.Goals as goal

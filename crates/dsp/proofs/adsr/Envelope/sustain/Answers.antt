@@ -1,5 +1,4 @@
 -- A timed step, as the clock's callee tells it; the level to fall to is lowered first.
-use borrow.Author.Rules.{rules}
 use mathlib.Core.Path.{◌∙◌, ap, sym}
 use Rattle.dsp.specs.Envelope.{faded, sustain_tick}
 use Rattle.dsp.proofs.adsr.Envelope.sustain.Goals as goal

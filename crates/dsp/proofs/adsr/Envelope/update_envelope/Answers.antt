@@ -1,5 +1,4 @@
 -- GAIN first, then by the phase.
-use borrow.Author.Rules.{rules}
 use mathlib.Core.Bool.{false}
 use mathlib.Core.Path.{◌≡◌, refl, ◌∙◌, ap, sym}
 use Rattle.dsp.specs.declared.adsr.Adsr.{Adsr}

@@ -1,5 +1,4 @@
 -- By bit 7: at once, or as a timed step.
-use borrow.Author.Rules.{rules}
 use borrow.Author.Tests.{le-leb, lt-leb}
 use mathlib.Core.Path.{◌≡◌, ◌∙◌, ap, sym}
 use Prim.Native.Nat.{◌/◌, ◌%◌}

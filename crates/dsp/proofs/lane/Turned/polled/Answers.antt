@@ -1,5 +1,4 @@
 -- By KON, and without it by the phase. Under KON the code leaves KOFF out, since the key-on overwrites it.
-use borrow.Author.Rules.{rules}
 use native.Mathlib.Nat.{mod-eq_of_lt}
 use mathlib.Core.Bool.{Bool, true, false, not, ◌&&◌, and-false, or-false}
 use mathlib.Core.List.{List}

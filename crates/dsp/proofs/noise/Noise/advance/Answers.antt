@@ -1,5 +1,4 @@
 -- By the clock, at the period of FLG's entry.
-use borrow.Author.Rules.{rules}
 use mathlib.Core.Path.{sym}
 use Rattle.dsp.specs.Noise.{noise_tick}
 use Rattle.dsp.proofs.noise.Noise.advance.Goals as goal

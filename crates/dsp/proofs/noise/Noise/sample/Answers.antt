@@ -1,5 +1,4 @@
 -- The ranges are computed; the register has 15 bits.
-use borrow.Author.Rules.{rules}
 use Rattle.numbers.proofs.Range.{fits, reads, q_upto}
 use Rattle.numbers.proofs.Clamp.{calls}
 use Rattle.dsp.proofs.noise.Noise.sample.Goals as goal

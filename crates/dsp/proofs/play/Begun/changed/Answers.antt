@@ -1,5 +1,4 @@
 -- The block that is decoded, with the play anew and the envelope cut where it mutes; then the bytes, by the end flag.
-use borrow.Author.Rules.{rules}
 use mathlib.Core.Bool.{Bool, true, ◌||◌}
 use mathlib.Core.List.{List}
 use mathlib.Core.Path.{◌≡◌, refl, ap, ◌∙◌}

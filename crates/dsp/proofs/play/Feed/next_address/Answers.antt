@@ -1,5 +1,4 @@
 -- By the end flag.
-use borrow.Author.Rules.{rules}
 use mathlib.Core.Path.{◌∙◌}
 use Rattle.dsp.specs.Voice.{next_address}
 use Rattle.dsp.proofs.Blocks.{word_wraps}

@@ -1,5 +1,4 @@
 -- What the record was taken apart into stands for its parts (Made); drive moves these on; what it leaves is the record that is made again.
-use borrow.Author.Rules.{rules}
 use mathlib.Core.List.{[]}
 use mathlib.Core.Path.{◌≡◌, sym, subst, ◌∙◌}
 use Rattle.dsp.specs.Fit.{Fit}
@@ -49,8 +48,7 @@ drive-k-requires c =
       left = c.far-far.ensures.1 i;
       right = c.far-far.ensures.2 i;
       globals = c.far-far.ensures.0 i;
-    }) in
-    (
+    }) in (
       c.gauss_table-table.ensures,
       c.rate_table-rates.ensures,
       c.currents_of-currents.type_inv.1.0.1,

@@ -1,5 +1,4 @@
 -- Its voices are new.
-use borrow.Author.Rules.{rules}
 use Rattle.dsp.proofs.registers.Dsp.new.Goals as goal
 
 pub returns : goal.returns

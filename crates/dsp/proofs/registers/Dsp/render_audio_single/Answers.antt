@@ -1,5 +1,4 @@
 -- By the test, which gives the levels that the dry sum asks for. Both sides are read back from their bits.
-use borrow.Author.Rules.{rules}
 use mathlib.Core.Path.{◌∙◌, sym}
 use mir.Syntax.{w16}
 use Rattle.numbers.proofs.Range.{landed}

@@ -1,5 +1,4 @@
 -- By the two refusals, in their order; then one tick of driven, which works every lane.
-use borrow.Author.Rules.{rules}
 use mathlib.Core.List.{[]}
 use mathlib.Core.Path.{◌≡◌, refl, sym, ap, ◌∙◌}
 use native.Mathlib.Omega.{arith}

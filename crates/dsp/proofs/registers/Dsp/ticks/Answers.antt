@@ -1,10 +1,9 @@
 -- By the refusals, in their order; then driven.
-use borrow.Author.Rules.{rules}
 use mathlib.Core.Bool.{true}
 use mathlib.Core.Path.{◌≡◌, refl, sym, ◌∙◌}
 use native.Mathlib.Omega.{arith}
 use lib.ListN.{length}
-use borrow.Author.Tests.{eq-eqb, ne_eqb, not-true, not-false}
+use borrow.Author.Tests.{eq-eqb, ne_eqb}
 use Rattle.dsp.specs.Fit.{fit}
 use Rattle.dsp.specs.Ticks.{drove, drive_of}
 use Rattle.dsp.proofs.Fits.{fit_facts, facts_fit}

@@ -1,5 +1,4 @@
 -- By the test of fitness.
-use borrow.Author.Rules.{rules}
 use Rattle.dsp.specs.Registers.{write_of}
 use Rattle.dsp.proofs.registers.Dsp.write_reg.Goals as goal
 

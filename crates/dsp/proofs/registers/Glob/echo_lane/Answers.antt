@@ -1,5 +1,4 @@
 -- The callee of each branch; the outputs have 16 bits.
-use borrow.Author.Rules.{rules}
 use mir.Syntax.{w16}
 use Rattle.numbers.proofs.Range.{landed}
 use Rattle.dsp.specs.Echo.{echo_lane}

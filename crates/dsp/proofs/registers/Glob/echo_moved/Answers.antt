@@ -1,5 +1,4 @@
 -- Field by field.
-use borrow.Author.Rules.{rules}
 use mir.Facts.{to_z-of_z}
 use Rattle.dsp.specs.Echo.{echo_moved}
 use Rattle.dsp.proofs.registers.Glob.echo_moved.Goals as goal

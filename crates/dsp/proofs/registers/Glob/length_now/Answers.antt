@@ -1,5 +1,4 @@
 -- By the pointer.
-use borrow.Author.Rules.{rules}
 use borrow.Author.Tests.{eq-eqb, ne_eqb}
 use Rattle.dsp.specs.Echo.{length_now}
 use Rattle.dsp.proofs.registers.Glob.length_now.Goals as goal

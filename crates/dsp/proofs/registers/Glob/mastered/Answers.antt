@@ -1,5 +1,4 @@
 -- Muted by FLG bits 6 and 7; else both sides land in the record as they are.
-use borrow.Author.Rules.{rules}
 use Rattle.dsp.specs.Mix.{master_of}
 use Rattle.dsp.proofs.Outputs.{side_lands}
 use Rattle.dsp.proofs.registers.Glob.mastered.Goals as goal

@@ -1,5 +1,4 @@
 -- Two bytes, at addresses that wrap before the sum.
-use borrow.Author.Rules.{rules}
 use mir.Syntax.{w16}
 use Rattle.numbers.proofs.Range.{landed}
 use Rattle.dsp.specs.Echo.{echo_read}

@@ -1,5 +1,4 @@
 -- The callees; the sample has 16 bits.
-use borrow.Author.Rules.{rules}
 use mir.Syntax.{w16}
 use Rattle.numbers.proofs.Range.{landed}
 use Rattle.dsp.proofs.registers.Glob.shared.Goals as goal

@@ -1,5 +1,4 @@
 -- Each side by its law; the write and the move take what the sides give.
-use borrow.Author.Rules.{rules}
 use Rattle.dsp.specs.Echo.{echo_tick}
 use Rattle.dsp.specs.Inside.{as_globals}
 use Rattle.dsp.proofs.Echoes.{side_is}

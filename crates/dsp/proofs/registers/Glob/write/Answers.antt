@@ -1,5 +1,4 @@
 -- By the register; any other changes nothing.
-use borrow.Author.Rules.{rules}
 use mathlib.Core.Path.{sym}
 use mir.Syntax.{w8}
 use Rattle.numbers.proofs.Range.{landed}

@@ -1,5 +1,4 @@
 -- The callees, with the read-backs removed.
-use borrow.Author.Rules.{rules}
 use mathlib.Core.Path.{ap, ◌∙◌}
 use mir.Syntax.{w16}
 use Rattle.numbers.proofs.Range.{landed}

@@ -1,52 +1,48 @@
 -- After v lanes the arrays stand for the definition's round after v turns; after i ticks they stand, with parts, samples and rows, for its bench
 -- after i ticks. A turn's ways join behind the poll, behind the block change, and behind the step.
 use borrow.Author.Rules.{rules}
-use borrow.Author.Tests.{not-true, not-false}
-use mathlib.Core.Bool.{Bool, true, false, not, ◌&&◌, ◌||◌}
+use mathlib.Core.Bool.{Bool, not, ◌||◌}
 use mathlib.Core.List.{List, []}
-use mathlib.Core.Logic.{⊎_elim}
 use mathlib.Core.Path.{◌≡◌, refl, sym, ap, subst, ◌∙◌}
 use Prim.Native.Nat.{ℕ, ◌+◌, ◌-◌, ◌*◌, ◌%◌, ◌≤◌, ◌<◌}
 use native.Mathlib.Nat.{mod-eq_of_lt}
 use native.Mathlib.Omega.{arith}
-use lib.IntN.{ℤ, pos}
+use lib.IntN.{pos}
 use mir.Syntax.{w16}
 use mir.Val.{to_z, of_z, SFits}
 use mir.Facts.{to_z-of_z}
-use lib.ListN.{length, get_or, set, length-set, drop, drop_of_length-le}
+use lib.ListN.{length, get_or, set, drop, drop_of_length-le}
 use lib.Seq.{get_or-set_same}
-use borrow.Rule.Slice.PartMut.{mid_of, put_mid, mid_len}
+use borrow.Rule.Slice.PartMut.{mid_of, mid_len}
 use Rattle.numbers.proofs.Range.{landed}
 use Rattle.numbers.proofs.Parts.{unwritten, sized, all_written}
 use Rattle.numbers.specs.Bits.{bit}
-use Rattle.numbers.specs.Choice.{if◌then◌else◌, ◌=?◌}
+use Rattle.numbers.specs.Choice.{if◌then◌else◌}
 use Rattle.sound.specs.Sound.{joined}
 use Rattle.dsp.specs.Machine.{Globals, no_voice}
 use Rattle.dsp.specs.Fit.{FitAdsr, FitGlobals, FitVoice}
 use Rattle.dsp.specs.Envelope.{is_off}
-use Rattle.dsp.specs.Voice.{Sounding, PitchSource, decoded_at}
+use Rattle.dsp.specs.Voice.{Sounding}
 use Rattle.dsp.specs.Mix.{scaled_output, master_of}
 use Rattle.dsp.specs.Lane.{Shared, source_of, Sums, added}
 use Rattle.dsp.specs.Echo.{EchoLane, echo_lane}
 use Rattle.dsp.specs.Tick.{globals_tick, frame_of}
 use Rattle.dsp.specs.Ticks.{Bench, ticks_of}
-use Rattle.dsp.specs.Inside.{as_source, as_brr, as_sounding, begun_of, due_of, rest_left, block_address, gone_on, as_shared, as_sums, as_globals, no_envelope, no_play, no_feed, samples_at, voices_in}
+use Rattle.dsp.specs.Inside.{as_source, as_shared, as_sums, as_globals, no_envelope, no_play, voices_in}
 use Rattle.dsp.specs.declared.lane.Dial.{Dial}
 use Rattle.dsp.specs.declared.voice.Voice.{Voice}
 use Rattle.dsp.proofs.Fits.{adsr_fit, brr_fit, level_fit}
 use Rattle.dsp.proofs.Pitch.{seven}
-use Rattle.dsp.proofs.Samples.{once_of, tick_once}
-use Rattle.dsp.proofs.Store.{part_span}
+use Rattle.dsp.proofs.Samples.{tick_once}
 use Rattle.dsp.proofs.Ticks.{globals-kept, bench-fit}
-use Rattle.dsp.proofs.Drives.{round_of, Lanes, lanes_first, lane_shown, lanes_sized, bench_at, Driven, tick_on}
-use Rattle.dsp.proofs.Apart.{Arrays, arrays, Sized, voice_at, voices_from, voices-count, voice-at, parts_from}
+use Rattle.dsp.proofs.Drives.{round_of, Lanes, lanes_first, lane_shown, lanes_sized, bench_at, tick_on}
+use Rattle.dsp.proofs.Apart.{Arrays, arrays, voice_at, voices_from, voices-count, voice-at, parts_from}
 use Rattle.dsp.proofs.Lanes.{fits}
 use Rattle.dsp.proofs.Moves.{polled_keeps, played_keeps, waited_keeps}
 use Rattle.dsp.proofs.Plays.{Low, low}
 use Rattle.dsp.proofs.Envelopes.{fit-kept_envelope}
 use Rattle.dsp.proofs.Turning.{sample_now, lane_worked, wait_at, Waited, skips, idles, sounds, Moment, moment, Polled, not_polled, is_polled}
 use Rattle.dsp.proofs.Stepping.{either_off, sounding-test, idle-test, rising, Advance, advance, Taken, taken, taken_past}
-use Rattle.dsp.proofs.tick.Moving.drive.Invariants.{invariant-loop-v, decreases-loop-v, invariant-loop-i, decreases-loop-i}
 use Rattle.dsp.proofs.tick.Moving.drive.Goals.{Joined-bit, After-advanced-b, Joined-b, Joined-wait-eq0, then-bit, else-bit, then-b, else-b, then-wait-eq0+then-p-off, then-wait-eq0+else-p-off, else-wait-eq0}
 use Rattle.dsp.proofs.tick.Moving.drive.Goals as goal
 

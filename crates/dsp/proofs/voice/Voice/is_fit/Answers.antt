@@ -1,5 +1,4 @@
 -- Both parts are tested by their own.
-use borrow.Author.Rules.{rules}
 use mathlib.Core.Bool.{and_assoc, and-true}
 use Rattle.numbers.specs.Listed.{all}
 use Rattle.dsp.proofs.voice.Voice.is_fit.Goals as goal

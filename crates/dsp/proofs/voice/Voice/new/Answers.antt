@@ -1,5 +1,4 @@
 -- Both parts are new.
-use borrow.Author.Rules.{rules}
 use Rattle.dsp.proofs.voice.Voice.new.Goals as goal
 
 pub returns : goal.returns

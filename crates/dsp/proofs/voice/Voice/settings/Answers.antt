@@ -1,5 +1,4 @@
 -- Each period is its entry's.
-use borrow.Author.Rules.{rules}
 use Rattle.dsp.proofs.voice.Voice.settings.Goals as goal
 
 pub returns : goal.returns

@@ -1,5 +1,4 @@
 -- By the digit; any other changes nothing.
-use borrow.Author.Rules.{rules}
 use mathlib.Core.List.{[], ◌∷◌}
 use native.Mathlib.Omega.{arith}
 use Rattle.numbers.proofs.Bits.{top_bit}
