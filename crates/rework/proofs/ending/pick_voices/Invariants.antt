@@ -1,0 +1,18 @@
+-- After j stores the first j are chosen.
+use borrow.Author.Rules.{rules}
+use native.Mathlib.Nat.{mod-eq_of_lt}
+use Prim.Native.Nat.{◌-◌}
+use native.Mathlib.Omega.{arith}
+use lib.ListN.{get_or}
+use Rattle.numbers.specs.Choice.{if◌then◌else◌}
+use Rattle.numbers.specs.Bits.{bit}
+use Rattle.dsp.specs.Machine.{no_voice}
+use Rattle.rework.specs.Rework.{picked}
+use Rattle.rework.proofs.Listed.{Stored, stored_none, stored_more, stored_at, stored_all}
+use Rattle.rework.proofs.ending.pick_voices.Given as goal
+
+abbrev pub invariant-loop-j : goal.invariant-loop-j
+invariant-loop-j l = Stored 8 (λ i. if bit l.set i then get_or l.new i no_voice else get_or l.initial.voices i no_voice) l.initial.voices l.j l.voices
+
+abbrev pub decreases-loop-j : goal.decreases-loop-j
+decreases-loop-j l = 8 - l.j
