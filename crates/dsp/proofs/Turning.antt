@@ -372,15 +372,6 @@ module _ (dials : List Dial) (c : Shared) (ram : List ℕ) (j : ℕ) (a₀ : Arr
       (λ i. record { voice = ev i; delay = left.delay; sums = em i; bytes = (eb ∙ bytes_there (high_z out)) i; slot = (es ∙ (λ k. lane_bytes out (envx_there k) (endx_there k))) i }) in
       start ∙ ap (f v) eo ∙ (λ i. f (ew i) (output_of (ew i)))
 
--- the arrays, delays and bytes of a moment
-pub record Moment : Type 0 where
-  pub arrays_are : Arrays
-  pub delays_are : List ℕ
-  pub bytes_are : List ℕ
-
-abbrev pub moment : Arrays → List ℕ → List ℕ → Moment
-moment a delays bytes = record { arrays_are = a; delays_are = delays; bytes_are = bytes }
-
 -- one lane more, of a voice that is worked
 pub lane_worked : (dials : List Dial) (mask : ℕ) (c : Shared) (ram found : List ℕ) (at : ℕ) (start : Round) (v : ℕ) (sheet : List ℕ) (a₀ : Arrays) (delays₀ bytes₀ : List ℕ) (sums : Sums) (x y : ℕ)
     (a : Arrays) (delays bytes : List ℕ) (sample out : ℤ) (sums' : Sums) (bytes' slot' : List ℕ)

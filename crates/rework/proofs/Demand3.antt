@@ -16,7 +16,6 @@ use Rattle.chip_log.specs.Log.{decode}
 use Rattle.chip_log.specs.Measure.{measure_of}
 use Rattle.chip_log.specs.declared.Record.{Record}
 use Rattle.chip_log.specs.declared.Record.TheVariants.{Write, Ticks, Reading}
-use Rattle.chip_log.proofs.Turn.{taken}
 use Rattle.dsp.specs.Play.{Run, play_all, starting}
 use Rattle.dsp.specs.Run.{ran, run_of}
 use Rattle.rework.specs.Alike.{without, same_record, same_records, alike}

@@ -16,7 +16,6 @@ use Rattle.chip_log.specs.Log.{decode}
 use Rattle.chip_log.specs.Measure.{ticks_in, readings_in, measure_of}
 use Rattle.chip_log.specs.declared.Record.{Record}
 use Rattle.chip_log.specs.declared.Record.TheVariants.{Write, Ticks, Reading}
-use Rattle.chip_log.proofs.Turn.{taken}
 use Rattle.dsp.specs.Run.{Outcome, run_of}
 use Rattle.rework.specs.Alike.{stays, without}
 use Rattle.rework.specs.Members.{modes_of, quiet}

@@ -1,5 +1,4 @@
 -- The three arrays.
-use borrow.Author.Rules.{rules}
 use Rattle.dsp.specs.Machine.{globals_of, together}
 use Rattle.rework.proofs.ending.end_of.Goals as goal
 

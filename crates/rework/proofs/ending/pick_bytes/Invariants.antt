@@ -1,10 +1,8 @@
 -- After i stores the first i are chosen.
-use borrow.Author.Rules.{rules}
 use Prim.Native.Nat.{◌-◌}
-use native.Mathlib.Omega.{arith}
 use lib.ListN.{get_or}
-use Rattle.rework.specs.Rework.{end_byte, picked_bytes}
-use Rattle.rework.proofs.Listed.{Stored, stored_none, stored_more, stored_at, stored_all}
+use Rattle.rework.specs.Rework.{end_byte}
+use Rattle.rework.proofs.Listed.{Stored}
 use Rattle.rework.proofs.ending.pick_bytes.Given as goal
 
 abbrev pub invariant-loop-i : goal.invariant-loop-i

@@ -1,13 +1,9 @@
 -- After j stores the first j are chosen.
 use borrow.Author.Rules.{rules}
 use native.Mathlib.Nat.{mod-eq_of_lt}
-use Prim.Native.Nat.{◌-◌}
 use native.Mathlib.Omega.{arith}
-use lib.ListN.{get_or}
-use Rattle.numbers.specs.Choice.{if◌then◌else◌}
-use Rattle.numbers.specs.Bits.{bit}
 use Rattle.rework.specs.Rework.{picked}
-use Rattle.rework.proofs.Listed.{Stored, stored_none, stored_more, stored_at, stored_all}
+use Rattle.rework.proofs.Listed.{stored_none, stored_more, stored_at, stored_all}
 use Rattle.rework.proofs.ending.pick_delays.Goals as goal
 
 pub loop-j-init : goal.loop-j-init

@@ -1,9 +1,6 @@
 -- After j turns it is j turns of the rule.
-use borrow.Author.Rules.{rules}
-use mathlib.Core.Path.{◌≡◌, refl, ap, ◌∙◌}
+use mathlib.Core.Path.{◌≡◌}
 use Prim.Native.Nat.{◌≤◌, ◌-◌}
-use native.Mathlib.Numerals.{add-one}
-use native.Mathlib.Omega.{arith}
 use Rattle.numbers.specs.Listed.{turns}
 use Rattle.rework.specs.Rework.{end_bit}
 use Rattle.rework.proofs.ending.pick_endx.Given as goal

@@ -1,5 +1,4 @@
 -- By the two tests.
-use borrow.Author.Rules.{rules}
 use native.Mathlib.Nat.{mod-eq_of_lt}
 use native.Mathlib.Omega.{arith}
 use Prim.Native.Nat.{◌+◌}

@@ -1,11 +1,8 @@
 -- After j turns it is j turns of the rule.
-use borrow.Author.Rules.{rules}
-use mathlib.Core.Path.{◌≡◌, refl, sym, ap, ◌∙◌}
-use Prim.Native.Nat.{ℕ, ◌≤◌, ◌-◌}
-use native.Mathlib.Numerals.{add-one}
-use native.Mathlib.Omega.{arith}
+use mathlib.Core.Path.{◌≡◌}
+use Prim.Native.Nat.{◌≤◌, ◌-◌}
 use Rattle.numbers.specs.Listed.{turns}
-use Rattle.rework.specs.Members.{join_after, joined_by}
+use Rattle.rework.specs.Members.{join_after}
 use Rattle.rework.proofs.joining.joined_by.Given as goal
 
 abbrev pub invariant-loop-j : goal.invariant-loop-j

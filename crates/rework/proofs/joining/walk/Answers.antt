@@ -1,14 +1,8 @@
 -- What has been walked and what is left give the whole.
-use borrow.Author.Rules.{rules}
-use mathlib.Core.Bool.{◌&&◌}
-use mathlib.Core.Path.{◌≡◌, refl, sym, ◌∙◌}
-use Prim.Native.Nat.{◌-◌}
+use mathlib.Core.Path.{refl, sym, ◌∙◌}
 use native.Mathlib.Omega.{arith}
-use lib.ListN.{length}
-use Rattle.chip_log.specs.Log.{records_from, decode}
+use Rattle.chip_log.specs.Log.{decode}
 use Rattle.chip_log.proofs.Turn.{moved}
-use Rattle.rework.specs.Members.{Fields, quiet, members}
-use Rattle.rework.specs.declared.joining.Walked.{Walked}
 use Rattle.rework.proofs.Walks.{quiet_on, quiet-end, members_on, members-end}
 use Rattle.rework.proofs.joining.walk.Invariants.{modes_in}
 use Rattle.rework.proofs.joining.walk.Goals as goal

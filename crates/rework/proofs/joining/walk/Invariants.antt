@@ -1,15 +1,11 @@
 -- What has been walked and what is left give the whole.
-use borrow.Author.Rules.{rules}
 use mathlib.Core.Bool.{◌&&◌}
-use mathlib.Core.Path.{◌≡◌, refl, sym, ◌∙◌}
+use mathlib.Core.Path.{◌≡◌}
 use Prim.Native.Nat.{◌-◌}
-use native.Mathlib.Omega.{arith}
 use lib.ListN.{length}
-use Rattle.chip_log.specs.Log.{records_from, decode}
-use Rattle.chip_log.proofs.Turn.{moved}
+use Rattle.chip_log.specs.Log.{records_from}
 use Rattle.rework.specs.Members.{Fields, quiet, members}
 use Rattle.rework.specs.declared.joining.Walked.{Walked}
-use Rattle.rework.proofs.Walks.{quiet_on, quiet-end, members_on, members-end}
 use Rattle.rework.proofs.joining.walk.Given as goal
 
 -- the fields as they stand

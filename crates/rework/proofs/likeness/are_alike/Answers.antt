@@ -1,12 +1,8 @@
 -- What is left of both logs is alike just where the whole is.
-use borrow.Author.Rules.{rules}
-use mathlib.Core.Path.{◌≡◌, refl, sym, ◌∙◌}
-use Prim.Native.Nat.{◌-◌}
+use mathlib.Core.Path.{refl, sym, ◌∙◌}
 use native.Mathlib.Omega.{arith}
-use lib.ListN.{length}
-use borrow.Author.Tests.{not-true, not-false}
-use Rattle.chip_log.specs.Log.{records_from, decode}
-use Rattle.rework.specs.Alike.{without, same_records, alike}
+use Rattle.chip_log.specs.Log.{decode}
+use Rattle.rework.specs.Alike.{same_records, alike}
 use Rattle.rework.proofs.Stays.{opens_as}
 use Rattle.rework.proofs.likeness.are_alike.Goals as goal
 

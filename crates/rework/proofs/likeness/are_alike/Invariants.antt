@@ -1,13 +1,9 @@
 -- What is left of both logs is alike just where the whole is.
-use borrow.Author.Rules.{rules}
-use mathlib.Core.Path.{◌≡◌, refl, sym, ◌∙◌}
+use mathlib.Core.Path.{◌≡◌}
 use Prim.Native.Nat.{◌-◌}
-use native.Mathlib.Omega.{arith}
 use lib.ListN.{length}
-use borrow.Author.Tests.{not-true, not-false}
-use Rattle.chip_log.specs.Log.{records_from, decode}
+use Rattle.chip_log.specs.Log.{records_from}
 use Rattle.rework.specs.Alike.{without, same_records, alike}
-use Rattle.rework.proofs.Stays.{opens_as}
 use Rattle.rework.proofs.likeness.are_alike.Given as goal
 
 abbrev pub invariant-loop-found : goal.invariant-loop-found

@@ -1,5 +1,4 @@
 -- The two tests.
-use borrow.Author.Rules.{rules}
 use Prim.Native.Nat.{◌/◌, ◌<◌}
 use native.Mathlib.Nat.{mod-eq_of_lt}
 use native.Mathlib.Omega.{arith}

@@ -1,5 +1,4 @@
 -- By the kind of the first.
-use borrow.Author.Rules.{rules}
 use Rattle.rework.proofs.likeness.is_same.Goals as goal
 
 pub returns-in-Write : goal.returns-in-Write

@@ -1,5 +1,4 @@
 -- By the kind of the record.
-use borrow.Author.Rules.{rules}
 use mathlib.Core.Path.{subst}
 use Rattle.chip_log.specs.Log.{Known}
 use Rattle.rework.proofs.likeness.is_staying.Goals as goal

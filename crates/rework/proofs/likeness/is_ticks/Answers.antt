@@ -1,5 +1,4 @@
 -- By the kind of the record.
-use borrow.Author.Rules.{rules}
 use Rattle.rework.specs.Alike.{same_record}
 use Rattle.rework.proofs.likeness.is_ticks.Goals as goal
 

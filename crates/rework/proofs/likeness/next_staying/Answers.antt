@@ -1,12 +1,8 @@
 -- What stays from each place on is what stays from the first.
 use borrow.Author.Rules.{rules}
-use mathlib.Core.Path.{◌≡◌, refl, ◌∙◌}
-use Prim.Native.Nat.{◌≤◌, ◌-◌}
+use mathlib.Core.Path.{refl, ◌∙◌}
 use native.Mathlib.Omega.{arith}
-use lib.ListN.{length}
-use Rattle.chip_log.specs.Log.{records_from}
 use Rattle.chip_log.proofs.Turn.{moved}
-use Rattle.rework.specs.Alike.{without}
 use Rattle.rework.proofs.Stays.{known, closed, opened}
 use Rattle.rework.proofs.likeness.next_staying.Goals as goal
 

@@ -1,13 +1,9 @@
 -- What stays from each place on is what stays from the first.
-use borrow.Author.Rules.{rules}
-use mathlib.Core.Path.{◌≡◌, refl, ◌∙◌}
+use mathlib.Core.Path.{◌≡◌}
 use Prim.Native.Nat.{◌≤◌, ◌-◌}
-use native.Mathlib.Omega.{arith}
 use lib.ListN.{length}
 use Rattle.chip_log.specs.Log.{records_from}
-use Rattle.chip_log.proofs.Turn.{moved}
 use Rattle.rework.specs.Alike.{without}
-use Rattle.rework.proofs.Stays.{known, closed, opened}
 use Rattle.rework.proofs.likeness.next_staying.Given as goal
 
 abbrev pub invariant-loop-found : goal.invariant-loop-found

@@ -1,5 +1,4 @@
 -- By the refusals, in their order.
-use borrow.Author.Rules.{rules}
 use mathlib.Core.Logic.{◌≢◌}
 use mathlib.Core.Path.{◌≡◌, sym, ◌∙◌}
 use Prim.Native.Nat.{ℕ}

@@ -1,5 +1,4 @@
 -- By the refusals; then the run of the set.
-use borrow.Author.Rules.{rules}
 use borrow.Author.Tests.{ne_eqb}
 use Rattle.rework.specs.Rework.{rework_of}
 use Rattle.rework.proofs.Reworks.{done, leaving, refused-run, whole_run}

@@ -1,5 +1,4 @@
 -- By the refusals; then the first run, and the rework of it.
-use borrow.Author.Rules.{rules}
 use Rattle.rework.proofs.Reworks.{refused-new, first_run, refused_first, reworked_first}
 use Rattle.rework.proofs.reworking.rework_new.Goals as goal
 

@@ -14,8 +14,7 @@ invariant-loop-v l =
     (voices_from l.dials (arrays l.envelopes l.plays l.feeds l.currents l.store)) l.delays l.bytes (as_sums l.acc)
 
 abbrev pub decreases-loop-v : goal.decreases-loop-v
-decreases-loop-v l =
-    8 - l.v
+decreases-loop-v l = 8 - l.v
 
 abbrev pub invariant-loop-i : goal.invariant-loop-i
 invariant-loop-i l =
@@ -24,5 +23,4 @@ invariant-loop-i l =
     (parts_from l.dials l.taps (arrays l.envelopes l.plays l.feeds l.currents l.store) l.delays l.bytes l.f) l.ram
 
 abbrev pub decreases-loop-i : goal.decreases-loop-i
-decreases-loop-i l =
-    l.n - l.i
+decreases-loop-i l = l.n - l.i

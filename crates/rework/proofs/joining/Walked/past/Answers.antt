@@ -1,5 +1,4 @@
 -- By the kind of the record.
-use borrow.Author.Rules.{rules}
 use mathlib.Core.Bool.{Bool, ◌&&◌, ◌||◌, and-true}
 use mathlib.Core.Path.{refl, sym, ap}
 use Rattle.numbers.specs.Choice.{◌=?◌}
