@@ -1,4 +1,4 @@
-// The sound chip for C: entries over numbers and byte slices. tools/c/boltwillow.h says how C calls them.
+// The sound chip as C sees it: entries over numbers and byte slices. The crate boltwillow_c exports them.
 #![tactic(auto)]
 
 ghost use Rattle.std.specs.Prelude.{◌≡◌, ◌≤◌};
@@ -15,8 +15,7 @@ use sitting::run_new;
 use wav::{Frames, read_wav, wav_frames, write_wav};
 
 // 0, or the log's refusal: 3 to 9.
-#[unsafe(no_mangle)]
-pub extern "C" fn bw_measure(log: &[u8]) -> u8
+pub fn bw_measure(log: &[u8]) -> u8
     ensures { result ≡ (measure_of log.now).refusal }
 {
     let m = measure(log);
@@ -24,8 +23,7 @@ pub extern "C" fn bw_measure(log: &[u8]) -> u8
 }
 
 // The log's ticks: a caller lends 4 bytes of PCM and 36 of sheet for each. 0 where the log is refused.
-#[unsafe(no_mangle)]
-pub extern "C" fn bw_ticks(log: &[u8]) -> u32
+pub fn bw_ticks(log: &[u8]) -> u32
     ensures { result ≡ (measure_of log.now).ticks }
 {
     let m = measure(log);
@@ -33,8 +31,7 @@ pub extern "C" fn bw_ticks(log: &[u8]) -> u32
 }
 
 // The log's readings: a caller lends a byte for each. 0 where the log is refused.
-#[unsafe(no_mangle)]
-pub extern "C" fn bw_readings(log: &[u8]) -> u32
+pub fn bw_readings(log: &[u8]) -> u32
     ensures { result ≡ (measure_of log.now).readings }
 {
     let m = measure(log);
@@ -42,8 +39,7 @@ pub extern "C" fn bw_readings(log: &[u8]) -> u32
 }
 
 // A sitting from the power-on record. 0, or the refusal: 1, 3 to 9, 10.
-#[unsafe(no_mangle)]
-pub extern "C" fn bw_run(
+pub fn bw_run(
     ram: &mut [u8],
     log: &[u8],
     pcm: &mut [u8],
@@ -58,8 +54,7 @@ pub extern "C" fn bw_run(
 
 // Two sittings from the power-on record: runs the first, and reworks it to the second. The answer's low byte is 0 or the refusal: 1,
 // 3 to 9 of the old log, then of the new, 12, 11, 10. The second byte is the set A, the third the number of voices in it.
-#[unsafe(no_mangle)]
-pub extern "C" fn bw_rework(
+pub fn bw_rework(
     named: u8,
     ram: &[u8],
     old_log: &[u8],
@@ -75,8 +70,7 @@ pub extern "C" fn bw_rework(
 }
 
 // A sound's file: 44 bytes, then the samples. 0, or the refusal: 10.
-#[unsafe(no_mangle)]
-pub extern "C" fn bw_write_wav(pcm: &[u8], file: &mut [u8]) -> u8
+pub fn bw_write_wav(pcm: &[u8], file: &mut [u8]) -> u8
     ensures { ◌≡◌ {A = Filed} (record { refusal = result; file = file.new }) (filed_of pcm.now file.old) }
 {
     write_wav(pcm, file)
@@ -91,16 +85,14 @@ fn frames_answer(f: Frames) -> u32
 }
 
 // The frames of a file of that layout, above the low byte, which is 0; or 13.
-#[unsafe(no_mangle)]
-pub extern "C" fn bw_wav_frames(file: &[u8]) -> u32
+pub fn bw_wav_frames(file: &[u8]) -> u32
     ensures { result ≡ frames_answer (frames_of file.now) }
 {
     frames_answer(wav_frames(file))
 }
 
 // The samples of a file of that layout. The answer's low byte is 0 or the refusal: 13, 10. Above it is the number of frames.
-#[unsafe(no_mangle)]
-pub extern "C" fn bw_read_wav(file: &[u8], pcm: &mut [u8]) -> u32
+pub fn bw_read_wav(file: &[u8], pcm: &mut [u8]) -> u32
     ensures { ◌≡◌ {A = ReadOut} (record { answer = result; pcm = pcm.new }) (restored_of (read_of file.now pcm.old)) }
 {
     frames_answer(read_wav(file, pcm))
