@@ -1,8 +1,7 @@
 # lesson: builds the programs `bench` and `wavfile`, plays a lesson and leaves its sound. remark: builds the program `remark` and asks
 # it what of a sitting has to be marked again after a change of voice 3; leaves the sound of both sittings. class: builds the program
-# `bench` and renders a class of thirty. c: builds the library for C, and links and runs an example. wasm: makes a WebAssembly module
-# of the library, plays the lessons by it in node and leaves it. test: the gate.
-.PHONY: lesson remark class c wasm test
+# `bench` and renders a class of thirty. c: builds the library for C, and links and runs an example. test: the gate.
+.PHONY: lesson remark class c test
 lesson:
 	rt check bench wavfile
 	@tools/lesson/play lessons/voices.txt target/lesson || [ $$? -eq 3 ]
@@ -28,8 +27,5 @@ class:
 c:
 	rt check bench wavfile
 	tools/c/run
-wasm:
-	rt check bench
-	tools/wasm/run target/boltwillow.wasm
 test:
 	.ci/run
