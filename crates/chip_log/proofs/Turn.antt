@@ -1,4 +1,5 @@
 -- A turn of a loop over the log's records, on plain values.
+use Rattle.std.proofs.Common.{if◌then◌else◌}
 use mathlib.Core.Path.{◌≡◌, refl, sym, ap, subst, ◌∙◌}
 use mathlib.Core.List.{List, [], ◌∷◌}
 use mathlib.Core.Bool.{Bool, true, false}
@@ -6,7 +7,7 @@ use Prim.Native.Nat.{ℕ, zero, suc, ◌+◌, ◌≤◌, ◌<◌}
 use native.Mathlib.Omega.{arith}
 use lib.ListN.{length}
 use borrow.Author.Tests.{lt-ltb, le-ltb, ltb-false, ne_eqb}
-use Rattle.numbers.specs.Choice.{if◌then◌else◌, ◌<?◌}
+use Rattle.numbers.specs.Choice.{◌<?◌}
 use Rattle.chip_log.specs.declared.Record.{Record}
 use Rattle.chip_log.specs.declared.Record.TheVariants.{Write, Ticks, Reading}
 use Rattle.chip_log.specs.declared.Next.{Next}

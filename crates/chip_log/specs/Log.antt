@@ -1,6 +1,6 @@
 -- What stands at a place of a log, and the log's records (document 01, "Log, sheet, program").
-use Rattle.std.specs.Prelude.{ℕ, zero, suc, ◌+◌, ◌*◌, ◌≤◌, ◌<◌, List, [], ◌∷◌, length, get_or}
-use Rattle.numbers.specs.Choice.{if◌then◌else◌, ◌≤?◌, ◌<?◌, ◌=?◌}
+use Rattle.std.specs.Prelude.{ℕ, zero, suc, ◌+◌, ◌*◌, ◌≤◌, ◌<◌, List, [], ◌∷◌, length, get_or, if◌then◌else◌}
+use Rattle.numbers.specs.Choice.{◌≤?◌, ◌<?◌, ◌=?◌}
 use Rattle.chip_log.specs.declared.Record.{Record}
 use Rattle.chip_log.specs.declared.Record.TheVariants.{Write, Ticks, Reading}
 use Rattle.chip_log.specs.declared.Next.{Next}

@@ -1,6 +1,6 @@
 -- What a caller must lend for a log, or the log's refusal.
-use Rattle.std.specs.Prelude.{ℕ, ◌+◌, List, [], ◌∷◌, length}
-use Rattle.numbers.specs.Choice.{if◌then◌else◌, ◌<?◌, ◌=?◌}
+use Rattle.std.specs.Prelude.{ℕ, ◌+◌, List, [], ◌∷◌, length, if◌then◌else◌}
+use Rattle.numbers.specs.Choice.{◌<?◌, ◌=?◌}
 use Rattle.chip_log.specs.Log.{Decoded, decode}
 use Rattle.chip_log.specs.declared.Record.{Record}
 use Rattle.chip_log.specs.declared.Record.TheVariants.{Write, Ticks, Reading}

@@ -1,4 +1,5 @@
 -- A lane keeps its voice fit.
+use Rattle.std.proofs.Common.{if◌then◌else◌}
 use mathlib.Core.Bool.{Bool, true}
 use mathlib.Core.List.{List}
 use mathlib.Core.Logic.{inl, inr}
@@ -6,7 +7,7 @@ use mathlib.Core.Path.{refl}
 use Prim.Native.Nat.{ℕ, ◌≤◌}
 use native.Mathlib.Omega.{arith}
 use lib.IntN.{ℤ}
-use Rattle.numbers.specs.Choice.{if◌then◌else◌, ◌=?◌}
+use Rattle.numbers.specs.Choice.{◌=?◌}
 use Rattle.numbers.specs.Bits.{bit}
 use Rattle.numbers.proofs.Choice.{chosen}
 use Rattle.dsp.specs.With.{with_envelope, with_brr}

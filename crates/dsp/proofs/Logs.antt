@@ -1,5 +1,6 @@
 -- A log over the parts: where its loop stands, what each record does to the arrays, and that what is left of the log from there gives the
 -- whole run.
+use Rattle.std.proofs.Common.{if◌then◌else◌}
 use mathlib.Core.Bool.{Bool, true, false, ◌&&◌}
 use mathlib.Core.List.{List, [], ◌++◌, map, append-nil}
 use mathlib.Core.Path.{◌≡◌, refl, sym, ap, subst, ◌∙◌}
@@ -11,7 +12,7 @@ use lib.ListN.{get_or, set, length, length-set, length-map, take, drop, take-app
 use lib.Seq.{take_all, ext_get_or, get_or-set_same, get_or-set_other, set-get_or}
 use borrow.Author.Tests.{ne_eqb, lt-ltb, le-ltb}
 use borrow.Rule.Slice.PartMut.{put_mid, mid_of, mid_len, Post-is, same_len_mid}
-use Rattle.numbers.specs.Choice.{if◌then◌else◌, ◌=?◌}
+use Rattle.numbers.specs.Choice.{◌=?◌}
 use Rattle.numbers.specs.Bits.{bit}
 use Rattle.numbers.proofs.Parts.{one_more, written_to, done_is, rest_is, part_written}
 use Rattle.chip_log.specs.Log.{Known, read_at, decode_from, decode}

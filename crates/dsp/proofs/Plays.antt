@@ -1,5 +1,6 @@
 -- A play: the records that the code makes anew, a block change, samples of one block one after another; what samples one by one do to the
 -- definition, and what they keep of a block and a level.
+use Rattle.std.proofs.Common.{if◌then◌else◌}
 use mathlib.Core.Path.{◌≡◌, ◌∙◌, refl}
 use mathlib.Core.Bool.{Bool, true, false, not, ◌&&◌, ◌||◌, and-true, and-false}
 use mathlib.Core.List.{List, [], ◌∷◌}
@@ -12,7 +13,7 @@ use lib.ListN.{get_or, length}
 use lib.Signed.{mag}
 use mir.Syntax.{w16}
 use mir.Val.{to_z, of_z}
-use Rattle.numbers.specs.Choice.{if◌then◌else◌, ◌≤?◌, ◌=?◌}
+use Rattle.numbers.specs.Choice.{◌≤?◌, ◌=?◌}
 use Rattle.numbers.specs.Listed.{listed}
 use Rattle.numbers.specs.Unsigned.{least}
 use Rattle.numbers.proofs.Choice.{tested}

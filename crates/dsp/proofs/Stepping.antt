@@ -1,5 +1,6 @@
 -- A voice's turn by what the calls of the code ensure, on plain values: its poll, its advance, a block change or none, its step. What stands
 -- behind each is fit.
+use Rattle.std.proofs.Common.{if◌then◌else◌}
 use mathlib.Core.Bool.{Bool, true, false, not, ◌&&◌, ◌||◌}
 use mathlib.Core.List.{List}
 use mathlib.Core.Path.{◌≡◌, refl, sym, ap, subst, ◌∙◌}
@@ -10,7 +11,7 @@ use lib.IntN.{ℤ}
 use lib.ListN.{get_or, set, length}
 use borrow.Rule.Slice.PartMut.{mid_of, put_mid}
 use Rattle.numbers.specs.Bits.{bit}
-use Rattle.numbers.specs.Choice.{if◌then◌else◌, ◌=?◌}
+use Rattle.numbers.specs.Choice.{◌=?◌}
 use Rattle.dsp.specs.Fit.{FitAdsr, FitVoice}
 use Rattle.dsp.specs.Envelope.{is_off}
 use Rattle.dsp.specs.Interpolation.{interpolate_z}

@@ -1,4 +1,5 @@
 -- A tick of the machine: what it keeps, and how its parts make the definition.
+use Rattle.std.proofs.Common.{if◌then◌else◌}
 use mathlib.Core.Bool.{Bool, true, false, ◌&&◌}
 use mathlib.Core.List.{List, [], ◌∷◌}
 use mathlib.Core.Path.{◌≡◌, refl, sym, ap, ◌∙◌}
@@ -8,7 +9,7 @@ use native.Mathlib.Nat.{zero-div}
 use borrow.Author.Tests.{ne_eqb}
 use lib.IntN.{ℤ}
 use lib.ListN.{get_or, length, length-set, length-map}
-use Rattle.numbers.specs.Choice.{if◌then◌else◌, ◌<?◌}
+use Rattle.numbers.specs.Choice.{◌<?◌}
 use Rattle.numbers.proofs.Choice.{chosen}
 use Rattle.numbers.specs.Bits.{bit}
 use Rattle.numbers.specs.Listed.{turns}

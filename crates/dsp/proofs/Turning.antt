@@ -1,5 +1,6 @@
 -- A voice's turn over the arrays, on plain values: behind its poll, behind its block change, behind its step, and where it lands, the arrays
 -- stand for what the definition gives.
+use Rattle.std.proofs.Common.{if◌then◌else◌}
 use mathlib.Core.Bool.{Bool, true, false, ◌||◌}
 use mathlib.Core.List.{List}
 use mathlib.Core.Logic.{◌≢◌}
@@ -11,7 +12,7 @@ use lib.ListN.{get_or, set, length, length-set}
 use lib.Seq.{get_or-set_same, get_or-set_other, set-get_or, set-set, set_comm}
 use borrow.Author.Tests.{eq-eqb, ne_eqb}
 use borrow.Rule.Slice.PartMut.{put_mid, mid_of}
-use Rattle.numbers.specs.Choice.{if◌then◌else◌, ◌=?◌}
+use Rattle.numbers.specs.Choice.{◌=?◌}
 use Rattle.numbers.specs.Bits.{bit, with_bit}
 use Rattle.numbers.specs.Signed.{high_z}
 use Rattle.numbers.proofs.Choice.{chosen}

@@ -1,7 +1,7 @@
 -- BRR: a block, which is a header and eight bytes, and its 16 samples.
-use Rattle.std.specs.Prelude.{Bool, List, ℕ, zero, suc, ◌+◌, ◌/◌, ◌%◌, ℤ, pos}
+use Rattle.std.specs.Prelude.{Bool, List, ℕ, zero, suc, ◌+◌, ◌/◌, ◌%◌, ℤ, pos, if◌then◌else◌}
 use Rattle.numbers.specs.Listed.{listed}
-use Rattle.numbers.specs.Choice.{if◌then◌else◌, ◌=?◌}
+use Rattle.numbers.specs.Choice.{◌=?◌}
 use Rattle.dsp.specs.Ram.{byte_at}
 -- what the public decode_brr_nibble gives
 pub use Rattle.sound.specs.Brr.{decode_nibble}

@@ -1,6 +1,6 @@
 -- A counter that waits for a tick period. Each envelope keeps such a counter, and the noise another.
-use Rattle.std.specs.Prelude.{Bool, not, ◌&&◌, ℕ, ◌+◌}
-use Rattle.numbers.specs.Choice.{if◌then◌else◌, ◌≤?◌, ◌=?◌}
+use Rattle.std.specs.Prelude.{Bool, not, ◌&&◌, ℕ, ◌+◌, if◌then◌else◌}
+use Rattle.numbers.specs.Choice.{◌≤?◌, ◌=?◌}
 use Rattle.sound.specs.Clock.{period_of}
 
 -- whether an entry of the table fires at this tick. Entry 0, of period 0, never does

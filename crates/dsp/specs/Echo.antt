@@ -1,6 +1,6 @@
 -- The echo: the pair at its pointer goes through the filter, and back into RAM with feedback.
-use Rattle.std.specs.Prelude.{Bool, List, ℕ, ◌+◌, ◌*◌, ℤ, get_or}
-use Rattle.numbers.specs.Choice.{if◌then◌else◌, ◌≤?◌, ◌=?◌}
+use Rattle.std.specs.Prelude.{Bool, List, ℕ, ◌+◌, ◌*◌, ℤ, get_or, if◌then◌else◌}
+use Rattle.numbers.specs.Choice.{◌≤?◌, ◌=?◌}
 use Rattle.numbers.specs.Signed.{◌>>◌}
 use Rattle.numbers.specs.Bits.{bit}
 use Rattle.numbers.specs.Listed.{moved_on}

@@ -1,6 +1,6 @@
 -- The envelope: ADSR and GAIN. What happens at a step stands apart from when it happens (`timed`).
-use Rattle.std.specs.Prelude.{Bool, true, false, not, ◌&&◌, ℕ, ◌+◌, ◌-◌, ◌*◌, ◌/◌, ◌%◌}
-use Rattle.numbers.specs.Choice.{if◌then◌else◌, ◌≤?◌, ◌=?◌}
+use Rattle.std.specs.Prelude.{Bool, true, false, not, ◌&&◌, ℕ, ◌+◌, ◌-◌, ◌*◌, ◌/◌, ◌%◌, if◌then◌else◌}
+use Rattle.numbers.specs.Choice.{◌≤?◌, ◌=?◌}
 use Rattle.numbers.specs.Bits.{bit}
 use Rattle.sound.specs.Envelope.{lowered, gained}
 use Rattle.dsp.specs.Clock.{fires, counted_on}

@@ -1,6 +1,5 @@
 -- Key off, key on, and silence: what a poll, RESET and an end block without loop make of a voice.
-use Rattle.std.specs.Prelude.{Bool, true, false, not, ◌&&◌, ℕ, pos, replicate}
-use Rattle.numbers.specs.Choice.{if◌then◌else◌}
+use Rattle.std.specs.Prelude.{Bool, true, false, not, ◌&&◌, ℕ, pos, replicate, if◌then◌else◌}
 use Rattle.numbers.specs.Unsigned.{wrapped}
 use Rattle.dsp.specs.With.{with_state, moved, with_key}
 use Rattle.dsp.specs.Envelope.{is_off}

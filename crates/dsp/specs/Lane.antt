@@ -1,7 +1,7 @@
 -- A voice's tick, in document 01's order: poll; skipped tick or step; NON; scaled output; what lands in the registers, the sums and the sheet.
 -- What a voice depends on stands in `cell_of`, and what it leaves in `landed`.
-use Rattle.std.specs.Prelude.{Bool, List, ℕ, ◌+◌, ◌-◌, ◌*◌, ◌%◌, ℤ, pos, get_or, set}
-use Rattle.numbers.specs.Choice.{if◌then◌else◌, ◌=?◌}
+use Rattle.std.specs.Prelude.{Bool, List, ℕ, ◌+◌, ◌-◌, ◌*◌, ◌%◌, ℤ, pos, get_or, set, if◌then◌else◌}
+use Rattle.numbers.specs.Choice.{◌=?◌}
 use Rattle.numbers.specs.Signed.{high_z}
 use Rattle.numbers.specs.Bits.{bit, with_bit}
 use Rattle.sound.specs.Sound.{even, joined}

@@ -1,6 +1,5 @@
 -- Outputs and sums: what a voice gives, the dry sum, and the stereo sample.
-use Rattle.std.specs.Prelude.{◌||◌, List, ℕ, ℤ, pos}
-use Rattle.numbers.specs.Choice.{if◌then◌else◌}
+use Rattle.std.specs.Prelude.{◌||◌, List, ℕ, ℤ, pos, if◌then◌else◌}
 use Rattle.numbers.specs.Bits.{bit}
 use Rattle.sound.specs.Sound.{levelled_z, summed, mastered}
 use Rattle.numbers.specs.Listed.{folded}

@@ -1,6 +1,5 @@
 -- Noise: the shift register that all voices share, under its clock.
-use Rattle.std.specs.Prelude.{ℕ, ◌*◌, ◌%◌, ℤ, pos}
-use Rattle.numbers.specs.Choice.{if◌then◌else◌}
+use Rattle.std.specs.Prelude.{ℕ, ◌*◌, ◌%◌, ℤ, pos, if◌then◌else◌}
 use Rattle.numbers.specs.Signed.{cut_z}
 use Rattle.sound.specs.Noise.{shifted}
 use Rattle.dsp.specs.Clock.{fires, counted_on}

@@ -1,6 +1,6 @@
 -- Register writes: what each register changes. A rule for each field says when it takes the value.
-use Rattle.std.specs.Prelude.{Bool, ◌&&◌, List, map, ℕ, ◌*◌, ◌/◌, ◌%◌, ℤ, pos, get_or, set}
-use Rattle.numbers.specs.Choice.{if◌then◌else◌, ◌<?◌, ◌=?◌}
+use Rattle.std.specs.Prelude.{Bool, ◌&&◌, List, map, ℕ, ◌*◌, ◌/◌, ◌%◌, ℤ, pos, get_or, set, if◌then◌else◌}
+use Rattle.numbers.specs.Choice.{◌<?◌, ◌=?◌}
 use Rattle.numbers.specs.Signed.{cut_z}
 use Rattle.numbers.specs.Unsigned.{with_low, with_high}
 use Rattle.numbers.specs.Bits.{bit}

@@ -1,6 +1,6 @@
 -- A run of a log from a record: its refusals in their order, and what it leaves (document 01, "Refusal numbers", "Log, sheet, program").
-use Rattle.std.specs.Prelude.{◌&&◌, List, ℕ, ◌*◌, length}
-use Rattle.numbers.specs.Choice.{if◌then◌else◌, ◌=?◌}
+use Rattle.std.specs.Prelude.{◌&&◌, List, ℕ, ◌*◌, length, if◌then◌else◌}
+use Rattle.numbers.specs.Choice.{◌=?◌}
 use Rattle.dsp.specs.Machine.{together}
 use Rattle.dsp.specs.Fit.{fit}
 use Rattle.dsp.specs.Tick.{everything}

@@ -1,6 +1,5 @@
 -- The bytes of a tick: its stereo sample in the PCM, and its row of 36 in the sheet (document 01, "Log, sheet, program").
-use Rattle.std.specs.Prelude.{Bool, List, [], ◌∷◌, ℕ, ◌*◌, ℤ, take, drop}
-use Rattle.numbers.specs.Choice.{if◌then◌else◌}
+use Rattle.std.specs.Prelude.{Bool, List, [], ◌∷◌, ℕ, ◌*◌, ℤ, take, drop, if◌then◌else◌}
 use Rattle.numbers.specs.Signed.{low_z, high_z}
 
 -- left, right, 16 bits, low byte first: a sample of the PCM, and the echo's lane of the sheet

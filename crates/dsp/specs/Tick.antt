@@ -1,7 +1,6 @@
 -- One tick of the machine: the noise, voices 0 to 7, each with its own poll, then echo and mix. That all voices polled before the noise make
 -- the same tick, as document 01 has it, is `PollFirst` (rework, specs/Order).
-use Rattle.std.specs.Prelude.{Bool, true, not, ◌&&◌, List, [], ◌++◌, ℕ, ℤ, get_or, set}
-use Rattle.numbers.specs.Choice.{if◌then◌else◌}
+use Rattle.std.specs.Prelude.{Bool, true, not, ◌&&◌, List, [], ◌++◌, ℕ, ℤ, get_or, set, if◌then◌else◌}
 use Rattle.numbers.specs.Bits.{bit}
 use Rattle.numbers.specs.Listed.{turns}
 use Rattle.dsp.specs.Noise.{noise_tick, noise_sample}

@@ -1,6 +1,6 @@
 -- One voice for one tick that does not skip it: envelope; idle return; resolve and decode; pitch; consume; interpolate; ENVX.
-use Rattle.std.specs.Prelude.{Bool, not, ◌&&◌, ◌||◌, List, ℕ, zero, suc, ◌+◌, ◌-◌, ◌/◌, ◌%◌, ℤ, pos, ◌+ℤ◌, ◌*ℤ◌, get_or}
-use Rattle.numbers.specs.Choice.{if◌then◌else◌, ◌=?◌}
+use Rattle.std.specs.Prelude.{Bool, not, ◌&&◌, ◌||◌, List, ℕ, zero, suc, ◌+◌, ◌-◌, ◌/◌, ◌%◌, ℤ, pos, ◌+ℤ◌, ◌*ℤ◌, get_or, if◌then◌else◌}
+use Rattle.numbers.specs.Choice.{◌=?◌}
 use Rattle.numbers.specs.Listed.{moved_on}
 use Rattle.numbers.specs.Signed.{natural, ◌>>◌}
 use Rattle.numbers.specs.Unsigned.{wrapped, least}

@@ -1,7 +1,7 @@
 // One lane of the machine for one tick: key off and on, the block change, and what a voice leaves in the registers, the sheet and the sums.
-ghost use Rattle.std.specs.Prelude.{Bool, true, false, ◌||◌, List, ◌≡◌, ◌+◌, ◌*◌, ◌%◌, ◌<◌, ◌≤◌, ℤ, pos, get_or, set, length};
+ghost use Rattle.std.specs.Prelude.{Bool, true, false, ◌||◌, List, ◌≡◌, ◌+◌, ◌*◌, ◌%◌, ◌<◌, ◌≤◌, ℤ, pos, get_or, set, length, if◌then◌else◌};
 ghost use Rattle.numbers.specs.Bits.{bit};
-ghost use Rattle.numbers.specs.Choice.{if◌then◌else◌, ◌=?◌};
+ghost use Rattle.numbers.specs.Choice.{◌=?◌};
 ghost use Rattle.numbers.specs.Signed.{high_z};
 ghost use Rattle.sound.specs.Clock.{periods};
 ghost use Rattle.sound.specs.Sound.{joined};

@@ -1,6 +1,5 @@
 // The machine's tick: the record is taken apart once, driven through its ticks, and made again once.
-ghost use Rattle.std.specs.Prelude.{◌≡◌, List, [], map, ℕ, ◌*◌, ◌≤◌, ◌<◌, get_or, length};
-ghost use Rattle.numbers.specs.Choice.{if◌then◌else◌};
+ghost use Rattle.std.specs.Prelude.{◌≡◌, List, [], map, ℕ, ◌*◌, ◌≤◌, ◌<◌, get_or, length, if◌then◌else◌};
 ghost use Rattle.sound.specs.Clock.{periods};
 ghost use Rattle.sound.specs.Gauss.{weights};
 ghost use Rattle.dsp.specs.Noise.{noise_tick};

@@ -1,6 +1,6 @@
 -- What holds of both holds of the chosen one; the least of two.
-use Rattle.std.proofs.Common.{◌≡◌, ℕ, ◌+◌, ◌≤◌, min, Bool, true, false, refl, arith, leb-false, leb-true}
-use Rattle.numbers.specs.Choice.{if◌then◌else◌, ◌≤?◌}
+use Rattle.std.proofs.Common.{◌≡◌, ℕ, ◌+◌, ◌≤◌, min, Bool, true, false, refl, arith, leb-false, leb-true, if◌then◌else◌}
+use Rattle.numbers.specs.Choice.{◌≤?◌}
 use Rattle.numbers.specs.Unsigned.{least}
 
 -- by the test that is made

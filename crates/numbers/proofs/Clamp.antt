@@ -1,7 +1,6 @@
 -- A clamped number has 16 bits, whatever was clamped; and the rules for what the functions of this crate give.
-use Rattle.std.proofs.Common.{◌≡◌, ◌≤◌, Bool, true, false, ℤ, pos, negsuc, refl, arith, lit≤, ltb-false}
+use Rattle.std.proofs.Common.{◌≡◌, ◌≤◌, Bool, true, false, ℤ, pos, negsuc, refl, arith, lit≤, ltb-false, if◌then◌else◌}
 use lib.Signed.{mag, lt_z}
-use Rattle.numbers.specs.Choice.{if◌then◌else◌}
 use Rattle.numbers.specs.Signed.{minus, clamp16_z}
 use Rattle.numbers.proofs.Range.{Q, q_1, q_by, Law1, Within}
 use Rattle.numbers.proofs.Cut.{q_cut_z, cuts}

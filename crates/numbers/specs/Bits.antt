@@ -1,6 +1,6 @@
 -- The bits of a byte.
-use Rattle.std.specs.Prelude.{ℕ, ◌+◌, ◌-◌, ◌*◌, ◌/◌, ◌%◌, ◌^◌, Bool}
-use Rattle.numbers.specs.Choice.{if◌then◌else◌, ◌=?◌}
+use Rattle.std.specs.Prelude.{ℕ, ◌+◌, ◌-◌, ◌*◌, ◌/◌, ◌%◌, ◌^◌, Bool, if◌then◌else◌}
+use Rattle.numbers.specs.Choice.{◌=?◌}
 
 -- bit n
 abbrev pub bit : ℕ → ℕ → Bool

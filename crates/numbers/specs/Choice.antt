@@ -1,10 +1,5 @@
--- Choice by a test, and the tests by their signs.
-use Rattle.std.specs.Prelude.{ℕ, Bool, true, false, ℤ, ◌==◌, int_lt, nat_le, nat_lt}
-
-infix 5 if◌then◌else◌
-abbrev pub if◌then◌else◌ : {A : Type 0} → Bool → A → A → A
-if true then a else b = a
-if false then a else b = b
+-- The tests of numbers, by their signs.
+use Rattle.std.specs.Prelude.{ℕ, Bool, ℤ, ◌==◌, int_lt, nat_le, nat_lt}
 
 infix 40 ◌≤?◌ ◌<?◌ ◌=?◌ ◌<ℤ?◌
 abbrev pub ◌≤?◌ : ℕ → ℕ → Bool

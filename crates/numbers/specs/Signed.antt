@@ -1,7 +1,7 @@
 -- Signed numbers: clamped, cut to some of their low bits, and taken apart into bytes.
-use Rattle.std.specs.Prelude.{ℕ, zero, suc, ◌+◌, ◌-◌, ◌%◌, ◌^◌, ℤ, pos, negsuc, ◌-ℤ◌}
+use Rattle.std.specs.Prelude.{ℕ, zero, suc, ◌+◌, ◌-◌, ◌%◌, ◌^◌, ℤ, pos, negsuc, ◌-ℤ◌, if◌then◌else◌}
 use Rattle.std.specs.Int.Signed.{shr_z}
-use Rattle.numbers.specs.Choice.{if◌then◌else◌, ◌<?◌, ◌<ℤ?◌}
+use Rattle.numbers.specs.Choice.{◌<?◌, ◌<ℤ?◌}
 
 -- the number n below zero
 abbrev pub minus : ℕ → ℤ

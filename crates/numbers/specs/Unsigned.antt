@@ -1,7 +1,7 @@
 -- Unsigned 16-bit numbers: their halves, the sum that wraps, the least of two.
 -- (A difference that stops at 0 is the subtraction of ℕ itself.)
-use Rattle.std.specs.Prelude.{ℕ, ◌+◌, ◌*◌, ◌/◌, ◌%◌}
-use Rattle.numbers.specs.Choice.{if◌then◌else◌, ◌≤?◌}
+use Rattle.std.specs.Prelude.{ℕ, ◌+◌, ◌*◌, ◌/◌, ◌%◌, if◌then◌else◌}
+use Rattle.numbers.specs.Choice.{◌≤?◌}
 
 -- x with another low byte, and with another high byte
 abbrev pub with_low : ℕ → ℕ → ℕ

@@ -1,4 +1,5 @@
 -- Readings compared place by place.
+use Rattle.std.proofs.Common.{if◌then◌else◌}
 use mathlib.Core.Bool.{Bool, true, false}
 use mathlib.Core.List.{List, [], ◌∷◌}
 use mathlib.Core.Path.{◌≡◌, refl, sym, ◌∙◌}
@@ -10,7 +11,7 @@ use native.Mathlib.Decide.{dec_le}
 use lib.ListN.{length, get_or, drop, drop_of_length-le}
 use lib.Seq.{drop-cons}
 use borrow.Author.Tests.{le-leb, lt-leb}
-use Rattle.numbers.specs.Choice.{if◌then◌else◌, ◌≤?◌}
+use Rattle.numbers.specs.Choice.{◌≤?◌}
 use Rattle.numbers.specs.Unsigned.{least}
 use Rattle.numbers.proofs.Choice.{chosen}
 use Rattle.remark.specs.Marking.{kept, same, changed_from, same_at, greatest}

@@ -1,7 +1,7 @@
 -- The program's answer: the old log run from power-on and reworked to the new one, and the readings of both compared.
-use Rattle.std.specs.Prelude.{Bool, true, false, List, ◌++◌, ℕ, length, take, drop}
+use Rattle.std.specs.Prelude.{Bool, true, false, List, ◌++◌, ℕ, length, take, drop, if◌then◌else◌}
 use Rattle.numbers.specs.Bytes.{copied}
-use Rattle.numbers.specs.Choice.{if◌then◌else◌, ◌=?◌}
+use Rattle.numbers.specs.Choice.{◌=?◌}
 use Rattle.numbers.specs.Unsigned.{least}
 use Rattle.dsp.specs.PowerOn.{new_dsp}
 use Rattle.dsp.specs.declared.registers.Dsp.{Dsp}

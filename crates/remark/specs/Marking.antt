@@ -1,6 +1,6 @@
 -- The readings of two sittings side by side: how many are as before, which have changed, and whether anything has to be marked again.
-use Rattle.std.specs.Prelude.{Bool, false, List, [], ◌∷◌, ℕ, ◌+◌, length, get_or}
-use Rattle.numbers.specs.Choice.{if◌then◌else◌, ◌≤?◌, ◌=?◌}
+use Rattle.std.specs.Prelude.{Bool, false, List, [], ◌∷◌, ℕ, ◌+◌, length, get_or, if◌then◌else◌}
+use Rattle.numbers.specs.Choice.{◌≤?◌, ◌=?◌}
 use Rattle.remark.specs.declared.marking.Verdict.{Verdict}
 use Rattle.remark.specs.declared.marking.Verdict.TheVariants.{Nothing, Changed}
 

@@ -1,6 +1,6 @@
 -- What a record of the envelope must say.
-use Rattle.std.specs.Prelude.{Bool, ◌&&◌, List, ℕ, pos, replicate}
-use Rattle.numbers.specs.Choice.{if◌then◌else◌, ◌≤?◌, ◌=?◌}
+use Rattle.std.specs.Prelude.{Bool, ◌&&◌, List, ℕ, pos, replicate, if◌then◌else◌}
+use Rattle.numbers.specs.Choice.{◌≤?◌, ◌=?◌}
 use Rattle.dsp.specs.declared.adsr.EnvelopePhase.{EnvelopePhase}
 use Rattle.dsp.specs.declared.adsr.EnvelopePhase.TheVariants.{Attack, Decay, Sustain, Release, Off}
 use Rattle.dsp.specs.declared.adsr.Adsr.{Adsr}

@@ -1,6 +1,6 @@
 -- Capital hex digits, in ASCII.
-use Rattle.std.specs.Prelude.{ℕ, zero, suc, ◌+◌, ◌/◌, ◌%◌, List, [], ◌∷◌, ◌++◌}
-use Rattle.numbers.specs.Choice.{if◌then◌else◌, ◌<?◌}
+use Rattle.std.specs.Prelude.{ℕ, zero, suc, ◌+◌, ◌/◌, ◌%◌, List, [], ◌∷◌, ◌++◌, if◌then◌else◌}
+use Rattle.numbers.specs.Choice.{◌<?◌}
 
 abbrev pub capital : ℕ → ℕ
 capital n =

@@ -1,6 +1,5 @@
 -- Runs that are lent exactly as much as a log needs, what they leave, and the registers that a log reads.
-use Rattle.std.specs.Prelude.{ℕ, ◌*◌, Bool, List, [], ◌∷◌, ◌++◌, length, take, drop, replicate}
-use Rattle.numbers.specs.Choice.{if◌then◌else◌}
+use Rattle.std.specs.Prelude.{ℕ, ◌*◌, Bool, List, [], ◌∷◌, ◌++◌, length, take, drop, replicate, if◌then◌else◌}
 use Rattle.numbers.specs.Unsigned.{least}
 use Rattle.dsp.specs.PowerOn.{new_dsp}
 use Rattle.dsp.specs.declared.registers.Dsp.{Dsp}

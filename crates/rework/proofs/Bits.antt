@@ -1,5 +1,6 @@
 -- A byte with some bits of another, and the set of voices that a byte holds: what joins it stays, and a set that a tick's rule has made
 -- is closed under that tick's PMON.
+use Rattle.std.proofs.Common.{if◌then◌else◌}
 use mathlib.Core.Bool.{Bool, true, false, ◌&&◌}
 use mathlib.Core.Logic.{◌≢◌}
 use mathlib.Core.Path.{◌≡◌, refl, sym, ap, ◌∙◌}
@@ -8,7 +9,6 @@ use native.Mathlib.Omega.{arith}
 use native.Mathlib.Decide.{ℕ_discrete}
 use borrow.Author.Tests.{eqb-true, eqb-false}
 use lib.Count.{ones, ones_step}
-use Rattle.numbers.specs.Choice.{if◌then◌else◌}
 use Rattle.numbers.proofs.Choice.{tested, chosen}
 use Rattle.numbers.specs.Bits.{bit, with_bit}
 use Rattle.numbers.proofs.Bits.{digit, digit_half, byte_ext, bit_here, bit_there, with_byte}

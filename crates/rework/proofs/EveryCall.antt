@@ -1,4 +1,5 @@
 -- "`new` is fit and every call keeps it so."
+use Rattle.std.proofs.Common.{if◌then◌else◌}
 use mathlib.Core.List.{List, []}
 use mathlib.Core.Path.{◌≡◌}
 use Prim.Native.Nat.{ℕ, zero, suc, ◌*◌, ◌%◌}
@@ -6,7 +7,7 @@ use native.Mathlib.Omega.{arith}
 use native.Mathlib.Decide.{ℕ_discrete, dec_lt}
 use lib.ListN.{get_or, length, get_or-eq_default}
 use borrow.Author.Tests.{eqb-true}
-use Rattle.numbers.specs.Choice.{if◌then◌else◌, ◌<?◌, ◌=?◌}
+use Rattle.numbers.specs.Choice.{◌<?◌, ◌=?◌}
 use Rattle.numbers.proofs.Choice.{tested, chosen}
 use Rattle.numbers.specs.Bits.{bit}
 use Rattle.dsp.specs.Machine.{no_voice, apart, together}

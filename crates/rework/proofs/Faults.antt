@@ -1,4 +1,5 @@
 -- A log's refusal by document 01's table: what `measure_of` finds is the first fault, and 3 before any.
+use Rattle.std.proofs.Common.{if◌then◌else◌}
 use mathlib.Core.Bool.{Bool, false}
 use mathlib.Core.List.{List, [], ◌∷◌}
 use mathlib.Core.Path.{◌≡◌, refl, sym, ap, ◌∙◌}
@@ -6,7 +7,7 @@ use Prim.Native.Nat.{ℕ, zero, suc, ◌+◌, ◌≤◌}
 use native.Mathlib.Omega.{arith}
 use borrow.Author.Tests.{eqb-true, ne_eqb, le-ltb, ltb-false}
 use lib.ListN.{length}
-use Rattle.numbers.specs.Choice.{if◌then◌else◌, ◌≤?◌, ◌<?◌, ◌=?◌}
+use Rattle.numbers.specs.Choice.{◌≤?◌, ◌<?◌, ◌=?◌}
 use Rattle.numbers.proofs.Choice.{tested}
 use Rattle.chip_log.specs.Log.{byte_in, write_record, ticks_record, reading_record, by_mark, read_at, before, decode_from, decode}
 use Rattle.chip_log.specs.Measure.{ticks_in, readings_in, unmeasured, total, total_of, measure_of}

@@ -1,4 +1,5 @@
 -- A run, and the run of its log without the named voices' own writes, agree outside the set as it runs.
+use Rattle.std.proofs.Common.{if◌then◌else◌}
 use mathlib.Core.Bool.{true, false, true≢false}
 use mathlib.Core.List.{List, [], ◌∷◌, ◌++◌}
 use mathlib.Core.Logic.{◌≢◌}
@@ -11,7 +12,7 @@ use borrow.Author.Tests.{ne_eqb, lt-ltb, ltb-true}
 use lib.IntN.{ℤ}
 use lib.ListN.{get_or, set, drop, length, length-set, length-append}
 use lib.Seq.{set-get_or}
-use Rattle.numbers.specs.Choice.{if◌then◌else◌, ◌<?◌, ◌=?◌}
+use Rattle.numbers.specs.Choice.{◌<?◌, ◌=?◌}
 use Rattle.numbers.specs.Signed.{high_z}
 use Rattle.numbers.proofs.Choice.{tested, chosen, chosen_both}
 use Rattle.numbers.specs.Bits.{bit, with_bit}

@@ -1,5 +1,6 @@
 -- Every voice polled first, then the noise, then the voices: the same tick as `tick_of`, which polls each voice in its lane. A poll of a voice
 -- passes over the steps of the voices before it, and with its own step makes its turn.
+use Rattle.std.proofs.Common.{if◌then◌else◌}
 use mathlib.Core.Bool.{Bool, false}
 use mathlib.Core.List.{List, [], ◌++◌}
 use mathlib.Core.Logic.{◌≢◌}
@@ -11,7 +12,6 @@ use native.Mathlib.Decide.{ℕ_discrete}
 use lib.IntN.{ℤ}
 use lib.ListN.{get_or, set, length, length-set}
 use lib.Seq.{get_or-set_same, get_or-set_other, set-get_or, set-set, set_comm}
-use Rattle.numbers.specs.Choice.{if◌then◌else◌}
 use Rattle.numbers.proofs.Choice.{tested, chosen, chosen_both}
 use Rattle.numbers.specs.Bits.{bit, with_bit}
 use Rattle.numbers.proofs.Bits.{bit_here, bit_there, with_byte, byte_ext}

@@ -1,4 +1,5 @@
 -- By which number an entry refuses, and what a refused call leaves: an answer by tests in their order; and so a run, a part and a rework.
+use Rattle.std.proofs.Common.{if◌then◌else◌}
 use mathlib.Core.Bool.{Bool, true, false, not, ◌&&◌}
 use mathlib.Core.List.{List, [], ◌∷◌}
 use mathlib.Core.Logic.{◌≢◌}
@@ -7,7 +8,7 @@ use Prim.Native.Nat.{ℕ, zero, suc, ◌+◌, ◌*◌}
 use lib.ListN.{length}
 use native.Mathlib.Omega.{arith}
 use borrow.Author.Tests.{eqb-true, eq-eqb, ne_eqb}
-use Rattle.numbers.specs.Choice.{if◌then◌else◌, ◌<?◌, ◌=?◌}
+use Rattle.numbers.specs.Choice.{◌<?◌, ◌=?◌}
 use Rattle.numbers.proofs.Choice.{tested}
 use Rattle.dsp.specs.Fit.{fit}
 use Rattle.dsp.specs.declared.registers.Dsp.{Dsp}

@@ -1,4 +1,5 @@
 -- A rework that is not refused is its run of the set.
+use Rattle.std.proofs.Common.{if◌then◌else◌}
 use mathlib.Core.Bool.{Bool, not}
 use mathlib.Core.List.{List}
 use mathlib.Core.Logic.{◌≢◌}
@@ -8,7 +9,7 @@ use native.Mathlib.Omega.{arith}
 use lib.ListN.{length}
 use borrow.Author.Tests.{eqb-true, eq-eqb, ne_eqb, not-false}
 use Rattle.numbers.specs.Bytes.{copied}
-use Rattle.numbers.specs.Choice.{if◌then◌else◌, ◌=?◌}
+use Rattle.numbers.specs.Choice.{◌=?◌}
 use Rattle.numbers.proofs.Choice.{tested}
 use Rattle.numbers.proofs.Parts.{copied_whole}
 use Rattle.dsp.specs.Machine.{apart, together}

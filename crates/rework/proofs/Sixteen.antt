@@ -1,4 +1,5 @@
 -- Numbers of 16 bits: they are read back from their two bytes; a voice's output and the echo's have 16 bits, and so has a voice's sample after a tick.
+use Rattle.std.proofs.Common.{if◌then◌else◌}
 use mathlib.Core.Bool.{Bool, not, ◌&&◌}
 use mathlib.Core.List.{List}
 use mathlib.Core.Path.{◌≡◌, refl, ap}
@@ -9,7 +10,7 @@ use borrow.Author.Tests.{lt-ltb, le-ltb}
 use lib.IntN.{ℤ, pos, negsuc, ◌+ℤ◌, ◌*ℤ◌}
 use lib.ListN.{get_or}
 use lib.Signed.{mag}
-use Rattle.numbers.specs.Choice.{if◌then◌else◌, ◌=?◌}
+use Rattle.numbers.specs.Choice.{◌=?◌}
 use Rattle.numbers.specs.Signed.{minus, ◌>>◌, clamp16_z, mod_z, low_z, high_z}
 use Rattle.numbers.proofs.Choice.{chosen}
 use Rattle.numbers.proofs.Range.{times_law, shr_law}

@@ -1,9 +1,9 @@
 -- A log without the named voices' own writes, from place to place; and what the test of two such logs means.
+use Rattle.std.proofs.Common.{if◌then◌else◌}
 use mathlib.Core.Bool.{Bool}
 use mathlib.Core.List.{List, [], ◌∷◌}
 use mathlib.Core.Path.{◌≡◌, sym, ap, subst, ◌∙◌}
 use Prim.Native.Nat.{ℕ}
-use Rattle.numbers.specs.Choice.{if◌then◌else◌}
 use Rattle.chip_log.specs.Log.{read_at, Moves, Known, records_from}
 use Rattle.chip_log.specs.declared.Record.{Record}
 use Rattle.chip_log.specs.declared.Next.{Next}

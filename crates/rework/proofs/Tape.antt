@@ -1,11 +1,11 @@
 -- A log as single beats, and what a play of them puts out, tick by tick; and the relations that the two halves of demand 3 keep.
+use Rattle.std.proofs.Common.{if◌then◌else◌}
 use mathlib.Core.Bool.{true}
 use mathlib.Core.List.{List, [], ◌∷◌}
 use mathlib.Core.Path.{◌≡◌, refl}
 use Prim.Native.Nat.{ℕ, zero, suc, ◌<◌}
 use lib.IntN.{pos}
 use lib.ListN.{get_or, drop, length}
-use Rattle.numbers.specs.Choice.{if◌then◌else◌}
 use Rattle.numbers.proofs.Choice.{chosen}
 use Rattle.numbers.specs.Bits.{bit}
 use Rattle.dsp.specs.Machine.{no_voice, Parts, Globals}

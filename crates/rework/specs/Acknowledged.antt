@@ -1,7 +1,7 @@
 -- Document 02, W-202: "any write to `$7C` leaves 0", as a law of the chip's own write; and writes that leave something else there, which it rules out.
 -- That logs write as direct writes do is demand 2, and that a rework is a run is demand 3.
-use Rattle.std.specs.Prelude.{Bool, true, not, ◌&&◌, ◌≡◌, ℕ, ◌%◌, get_or, set}
-use Rattle.numbers.specs.Choice.{if◌then◌else◌, ◌=?◌}
+use Rattle.std.specs.Prelude.{Bool, true, not, ◌&&◌, ◌≡◌, ℕ, ◌%◌, get_or, set, if◌then◌else◌}
+use Rattle.numbers.specs.Choice.{◌=?◌}
 use Rattle.numbers.specs.Bits.{bit, with_bit}
 use Rattle.numbers.specs.Listed.{turns}
 use Rattle.dsp.specs.Machine.{globals_of, together}

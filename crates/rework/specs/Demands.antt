@@ -1,8 +1,8 @@
 -- The demands, as statements about the definitions that the contracts cite: `write_of`, `step_of`, `render_of`, `drive_of`, `measure_of`, `run_with`,
 -- `run_of`, `part_of`, `rework_of`, `rework_new_of`. (That no call traps or runs on is what the proof of any function says. That the definitions are the
 -- given Rust's is compared, not proved.) Demand 1: `demand1`; demand 2: `demand2`; demand 3: `demand3`, `demand3_new`, in proofs/.
-use Rattle.std.specs.Prelude.{true, not, ◌&&◌, List, [], ◌∷◌, ◌++◌, ◌≢◌, ◌≡◌, ℕ, zero, suc, ◌*◌, ◌<◌, pos, get_or, length, drop}
-use Rattle.numbers.specs.Choice.{if◌then◌else◌, ◌<?◌, ◌=?◌}
+use Rattle.std.specs.Prelude.{true, not, ◌&&◌, List, [], ◌∷◌, ◌++◌, ◌≢◌, ◌≡◌, ℕ, zero, suc, ◌*◌, ◌<◌, pos, get_or, length, drop, if◌then◌else◌}
+use Rattle.numbers.specs.Choice.{◌<?◌, ◌=?◌}
 use Rattle.dsp.specs.Machine.{apart}
 use Rattle.dsp.specs.PowerOn.{new_dsp}
 use Rattle.dsp.specs.Registers.{Written, write_of}

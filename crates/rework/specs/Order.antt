@@ -1,7 +1,6 @@
 -- The tick in document 01's order: every voice is polled, then the noise moves, then the voices step one after another, then the echo.
 -- `tick_of` polls each voice in its own lane, behind the noise; that this is the same tick is `PollFirst`.
-use Rattle.std.specs.Prelude.{true, false, not, List, [], ◌≡◌, ℕ, get_or, set}
-use Rattle.numbers.specs.Choice.{if◌then◌else◌}
+use Rattle.std.specs.Prelude.{true, false, not, List, [], ◌≡◌, ℕ, get_or, set, if◌then◌else◌}
 use Rattle.numbers.specs.Bits.{bit}
 use Rattle.numbers.specs.Listed.{turns}
 use Rattle.dsp.specs.Noise.{noise_tick, noise_sample}

@@ -1,6 +1,6 @@
 -- Document 01's table of refusals: its conditions, named as it names them, and the first that applies.
-use Rattle.std.specs.Prelude.{Bool, not, ◌&&◌, ◌||◌, List, [], ◌∷◌, ℕ, zero, suc, ◌+◌, ◌*◌, length}
-use Rattle.numbers.specs.Choice.{if◌then◌else◌, ◌≤?◌, ◌<?◌, ◌=?◌}
+use Rattle.std.specs.Prelude.{Bool, not, ◌&&◌, ◌||◌, List, [], ◌∷◌, ℕ, zero, suc, ◌+◌, ◌*◌, length, if◌then◌else◌}
+use Rattle.numbers.specs.Choice.{◌≤?◌, ◌<?◌, ◌=?◌}
 use Rattle.dsp.specs.Fit.{fit}
 use Rattle.dsp.specs.declared.registers.Dsp.{Dsp}
 use Rattle.chip_log.specs.Log.{byte_in}

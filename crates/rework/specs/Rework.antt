@@ -1,6 +1,6 @@
 -- A rework: its refusals in their order, and what it leaves, for any old sheet (document 01, "Rework").
-use Rattle.std.specs.Prelude.{Bool, false, not, ◌&&◌, List, ℕ, ◌/◌, ◌%◌, get_or, length}
-use Rattle.numbers.specs.Choice.{if◌then◌else◌, ◌<?◌, ◌=?◌}
+use Rattle.std.specs.Prelude.{Bool, false, not, ◌&&◌, List, ℕ, ◌/◌, ◌%◌, get_or, length, if◌then◌else◌}
+use Rattle.numbers.specs.Choice.{◌<?◌, ◌=?◌}
 use Rattle.numbers.specs.Bits.{bit, with_bit}
 use Rattle.numbers.specs.Listed.{listed, turns}
 use Rattle.dsp.specs.Machine.{no_voice, Parts, apart, together}

@@ -1,6 +1,5 @@
 // The end record: the old one, with the voice records, key-on delays, registers $j0 .. $j9 and ENDX bits of the set replaced.
-ghost use Rattle.std.specs.Prelude.{◌≡◌, ◌<◌, length};
-ghost use Rattle.numbers.specs.Choice.{if◌then◌else◌};
+ghost use Rattle.std.specs.Prelude.{◌≡◌, ◌<◌, length, if◌then◌else◌};
 ghost use Rattle.dsp.specs.Machine.{no_voice, apart, together};
 ghost use Rattle.numbers.specs.Listed.{turns};
 ghost use Rattle.rework.specs.Rework.{picked, end_bit, end_byte, picked_bytes, end_parts};

@@ -1,6 +1,6 @@
 // A rework, and its refusals.
-ghost use Rattle.std.specs.Prelude.{◌≡◌, length};
-ghost use Rattle.numbers.specs.Choice.{if◌then◌else◌, ◌=?◌};
+ghost use Rattle.std.specs.Prelude.{◌≡◌, length, if◌then◌else◌};
+ghost use Rattle.numbers.specs.Choice.{◌=?◌};
 ghost use Rattle.rework.specs.Members.{Fields, modes_of};
 ghost use Rattle.rework.specs.Rework.{refusal_of, set_of, Left, rework_of, rework_new_of};
 

@@ -1,6 +1,6 @@
 -- A run in parts: each works one record of the log, or some ticks of a TK record.
-use Rattle.std.specs.Prelude.{List, [], ◌∷◌, ◌++◌, ◌≡◌, ℕ, ◌-◌, ◌*◌, ◌/◌, ◌≤◌, ◌<◌, length, get_or, take, drop}
-use Rattle.numbers.specs.Choice.{if◌then◌else◌, ◌<?◌, ◌=?◌}
+use Rattle.std.specs.Prelude.{List, [], ◌∷◌, ◌++◌, ◌≡◌, ℕ, ◌-◌, ◌*◌, ◌/◌, ◌≤◌, ◌<◌, length, get_or, take, drop, if◌then◌else◌}
+use Rattle.numbers.specs.Choice.{◌<?◌, ◌=?◌}
 use Rattle.numbers.specs.Unsigned.{least}
 use Rattle.dsp.specs.Machine.{together}
 use Rattle.dsp.specs.Fit.{fit}

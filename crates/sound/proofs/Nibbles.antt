@@ -1,4 +1,5 @@
 -- What a scaled nibble and a filter stay within, and each as a formula, for what a callee gives.
+use Rattle.std.proofs.Common.{if◌then◌else◌}
 use mathlib.Core.Path.{◌≡◌, refl}
 use mathlib.Core.Bool.{Bool, true, false, ◌&&◌}
 use Prim.Native.Nat.{ℕ, ◌^◌, ◌*◌, ◌%◌, ◌≤◌}
@@ -11,7 +12,7 @@ use lib.Pow.{pow_mono}
 use mir.Syntax.{w32}
 use mir.Val.{to_z}
 use mir.ValLaws.{to_z_pos}
-use Rattle.numbers.specs.Choice.{if◌then◌else◌, ◌=?◌}
+use Rattle.numbers.specs.Choice.{◌=?◌}
 use Rattle.numbers.specs.Signed.{minus, ◌>>◌}
 use Rattle.numbers.proofs.Range.{Q, q_1, q_2, Law1, Law2, Within, and_l, and_r, q_is, q_at, bounded, quotes}
 use Rattle.numbers.proofs.Clamp.{calls}

@@ -1,6 +1,6 @@
 -- BRR: one nibble decoded.
-use Rattle.std.specs.Prelude.{ℕ, ◌%◌, ◌^◌, ℤ, pos, ◌+ℤ◌, ◌-ℤ◌, ◌*ℤ◌}
-use Rattle.numbers.specs.Choice.{if◌then◌else◌, ◌≤?◌, ◌=?◌, ◌<ℤ?◌}
+use Rattle.std.specs.Prelude.{ℕ, ◌%◌, ◌^◌, ℤ, pos, ◌+ℤ◌, ◌-ℤ◌, ◌*ℤ◌, if◌then◌else◌}
+use Rattle.numbers.specs.Choice.{◌≤?◌, ◌=?◌, ◌<ℤ?◌}
 use Rattle.numbers.specs.Signed.{minus, neg, ◌>>◌, clamp16_z, cut_z}
 
 -- shift up to 12 gives (n · 2^shift) >> 1; above, -2048 for negative n, else 0

@@ -1,6 +1,6 @@
 -- Noise: a step of the shift register.
-use Rattle.std.specs.Prelude.{ℕ, ◌+◌, ◌/◌, ◌%◌}
-use Rattle.numbers.specs.Choice.{if◌then◌else◌, ◌=?◌}
+use Rattle.std.specs.Prelude.{ℕ, ◌+◌, ◌/◌, ◌%◌, if◌then◌else◌}
+use Rattle.numbers.specs.Choice.{◌=?◌}
 
 -- new bit 14 is bit 0 xor bit 1, rest >> 1
 unfoldable pub shifted : ℕ → ℕ

@@ -1,7 +1,7 @@
 -- Sound files of a sitting (document 02, W-201): "RIFF/WAVE, PCM, two channels, 16 bits, 32,000 frames a second, a 44-byte header, then
 -- the samples. .. Every header field follows from the frame count."
-use Rattle.std.specs.Prelude.{Bool, true, false, not, ◌&&◌, List, [], ◌∷◌, ◌++◌, ℕ, zero, suc, ◌+◌, ◌*◌, ◌/◌, ◌%◌, length, drop}
-use Rattle.numbers.specs.Choice.{if◌then◌else◌, ◌≤?◌, ◌=?◌}
+use Rattle.std.specs.Prelude.{Bool, true, false, not, ◌&&◌, List, [], ◌∷◌, ◌++◌, ℕ, zero, suc, ◌+◌, ◌*◌, ◌/◌, ◌%◌, length, drop, if◌then◌else◌}
+use Rattle.numbers.specs.Choice.{◌≤?◌, ◌=?◌}
 use Rattle.wav.specs.declared.Frames.{Frames}
 
 -- ---- the header's fields

@@ -1,5 +1,6 @@
 -- The record is taken apart into arrays that stand for it (Made); each record of the log moves them on (Logs); where the log ends they are made
 -- into a record again.
+use Rattle.std.proofs.Common.{if◌then◌else◌}
 use borrow.Author.Rules.{rules}
 use mathlib.Core.Bool.{◌&&◌}
 use mathlib.Core.List.{List, []}
@@ -8,7 +9,7 @@ use Prim.Native.Nat.{ℕ, ◌+◌, ◌*◌, ◌/◌, ◌≤◌, ◌<◌}
 use native.Mathlib.Omega.{arith}
 use lib.ListN.{length, set, length-map}
 use borrow.Rule.Slice.PartMut.{mid_len}
-use Rattle.numbers.specs.Choice.{if◌then◌else◌, ◌=?◌, ◌≤?◌}
+use Rattle.numbers.specs.Choice.{◌=?◌, ◌≤?◌}
 use Rattle.dsp.specs.Machine.{Parts, apart, together}
 use Rattle.dsp.specs.Registers.{resets}
 use Rattle.dsp.specs.Play.{starting}

@@ -1,7 +1,7 @@
 -- After j stores the first j are chosen.
+use Rattle.std.proofs.Common.{if◌then◌else◌}
 use Prim.Native.Nat.{◌-◌}
 use lib.ListN.{get_or}
-use Rattle.numbers.specs.Choice.{if◌then◌else◌}
 use Rattle.numbers.specs.Bits.{bit}
 use Rattle.rework.proofs.Listed.{Stored}
 use Rattle.rework.proofs.ending.pick_delays.Given as goal

@@ -1,10 +1,11 @@
 -- By the refusals, in their order.
+use Rattle.std.proofs.Common.{if◌then◌else◌}
 use mathlib.Core.Logic.{◌≢◌}
 use mathlib.Core.Path.{◌≡◌, sym, ◌∙◌}
 use Prim.Native.Nat.{ℕ}
 use native.Mathlib.Omega.{arith}
 use borrow.Author.Tests.{eq-eqb, ne_eqb}
-use Rattle.numbers.specs.Choice.{if◌then◌else◌, ◌=?◌}
+use Rattle.numbers.specs.Choice.{◌=?◌}
 use Rattle.rework.specs.Rework.{refusal_of}
 use Rattle.rework.proofs.reworking.checked.Goals as goal
 

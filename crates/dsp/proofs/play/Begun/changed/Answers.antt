@@ -1,10 +1,11 @@
 -- The block that is decoded, with the play anew and the envelope cut where it mutes; then the bytes, by the end flag.
+use Rattle.std.proofs.Common.{if◌then◌else◌}
 use mathlib.Core.Bool.{Bool, true, ◌||◌}
 use mathlib.Core.List.{List}
 use mathlib.Core.Path.{◌≡◌, refl, ap, ◌∙◌}
 use Prim.Native.Nat.{ℕ, ◌+◌, ◌*◌}
 use lib.ListN.{get_or, length, length-set}
-use Rattle.numbers.specs.Choice.{if◌then◌else◌, ◌=?◌}
+use Rattle.numbers.specs.Choice.{◌=?◌}
 use Rattle.numbers.proofs.Choice.{chosen}
 use Rattle.dsp.specs.Voice.{decoded_at, next_address}
 use Rattle.dsp.specs.Lane.{put_endx}

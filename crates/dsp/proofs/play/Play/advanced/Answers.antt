@@ -1,10 +1,11 @@
 -- The room that the block leaves, the samples that are taken of it, and the callees. The position never goes back.
+use Rattle.std.proofs.Common.{if◌then◌else◌}
 use borrow.Author.Rules.{rules}
 use borrow.Author.Tests.{eq-eqb, ne_eqb, le-leb}
 use mathlib.Core.Path.{◌≡◌, refl, sym, ◌∙◌}
 use Prim.Native.Nat.{ℕ, ◌-◌, ◌/◌, ◌%◌, ◌≤◌}
 use native.Mathlib.Omega.{arith}
-use Rattle.numbers.specs.Choice.{if◌then◌else◌, ◌≤?◌, ◌=?◌}
+use Rattle.numbers.specs.Choice.{◌≤?◌, ◌=?◌}
 use Rattle.numbers.specs.Unsigned.{least}
 use Rattle.numbers.proofs.Choice.{chosen, least_top, least-both}
 use Rattle.dsp.specs.With.{with_position}

@@ -1,5 +1,6 @@
 -- After v lanes the arrays stand for the definition's round after v turns; after i ticks they stand, with parts, samples and rows, for its bench
 -- after i ticks. A turn's ways join behind the poll, behind the block change, and behind the step.
+use Rattle.std.proofs.Common.{if◌then◌else◌}
 use borrow.Author.Rules.{rules}
 use mathlib.Core.Bool.{◌||◌}
 use mathlib.Core.List.{List, []}
@@ -16,7 +17,6 @@ use borrow.Rule.Slice.PartMut.{mid_of}
 use Rattle.numbers.proofs.Range.{landed}
 use Rattle.numbers.proofs.Parts.{unwritten, sized, all_written}
 use Rattle.numbers.specs.Bits.{bit}
-use Rattle.numbers.specs.Choice.{if◌then◌else◌}
 use Rattle.sound.specs.Sound.{joined}
 use Rattle.dsp.specs.Machine.{Globals, no_voice}
 use Rattle.dsp.specs.Fit.{FitGlobals, FitVoice}
