@@ -3,10 +3,10 @@
 # `bench` and renders a class of thirty. c: builds the library for C, and links and runs an example. test: the gate.
 .PHONY: lesson remark class c test
 lesson:
-	rt check bench wavfile
+	tools/programs bench wavfile
 	@tools/lesson/play lessons/voices.txt target/lesson || [ $$? -eq 3 ]
 remark:
-	rt check remark bench wavfile
+	tools/programs remark bench wavfile
 	@tools/lesson/play lessons/final.txt target/remark/old >/dev/null || [ $$? -eq 3 ]
 	@tools/lesson/play lessons/final-voice3.txt target/remark/new >/dev/null || [ $$? -eq 3 ]
 	@cp target/remark/old/ram.bin target/remark/ram.bin
@@ -20,12 +20,12 @@ remark:
 	    echo "It is not asked: target/bin/remark is made for x86-64 alone."; \
 	fi
 class:
-	rt check bench
+	tools/programs bench
 	@rm -rf target/class
 	@tools/class --make target/class
 	@tools/class target/class || [ $$? -eq 3 ]
 c:
-	rt check bench wavfile
+	tools/programs bench wavfile
 	tools/c/run
 test:
 	.ci/run
