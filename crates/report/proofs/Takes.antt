@@ -1,6 +1,6 @@
 -- So many bytes of a buffer were taken, or none.
 use Rattle.std.proofs.Common.{◌≡◌, ℕ, ◌≤◌, false, List, length, sym, arith, length-take-le}
-use Rattle.io.specs.Counts.{IsPrefixLen}
+use Rattle.std.specs.Counts.{IsPrefixLen}
 use Rattle.report.specs.Input.{Taken}
 use Rattle.report.specs.declared.input.Took.{Took}
 

@@ -1,6 +1,6 @@
 -- What is read: how many bytes of a buffer were taken, and the names of the RAM images. (Which bytes came is the operating system's.)
 use Rattle.std.specs.Prelude.{◌≡◌, ℕ, ◌+◌, true, List, [], ◌∷◌}
-use Rattle.io.specs.Counts.{IsPrefixLen}
+use Rattle.std.specs.Counts.{IsPrefixLen}
 use Rattle.report.specs.declared.input.Took.{Took}
 
 -- bytes at the start of the buffer; none where the read failed

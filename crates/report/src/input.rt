@@ -1,6 +1,11 @@
-// What a program reads: bytes of a descriptor or a file, and RAM from ram.bin.
+// What a program reads: bytes of a reader or a file, and RAM from ram.bin.
 ghost use Rattle.std.specs.Prelude.{◌≡◌, ◌≤◌, true, length};
+ghost use Rattle.std.specs.Counts.{IsPrefixLen};
 ghost use Rattle.report.specs.Input.{Taken};
+
+use std::fs;
+use std::io::{ErrorKind, Read};
+use std::rt::Files;
 
 // So many bytes at the start of a buffer; and whether a read failed, or the input ended too soon.
 #[derive(Clone, Copy)]
@@ -26,26 +31,25 @@ pub(crate) fn none() -> Took
 }
 
 // One read; 0 bytes at the input's end.
-fn some(fd: i32, buf: &mut [u8]) -> Took
+fn some<R: Read>(from: &mut R, buf: &mut [u8]) -> Took
     ensures { result.size ≤ length buf.old }
 {
-    let got = libc::read(fd, buf);
-    if got < 0 {
-        return none();
-    }
-    Took {
-        failed: false,
-        size: io::count(got, buf),
+    match from.read(buf) {
+        Ok(n) => Took {
+            failed: false,
+            size: n,
+        },
+        Err(_) => none(),
     }
 }
 
 // Reads until the buffer is full or the input ends.
-pub fn fill(fd: i32, buf: &mut [u8]) -> Took
+pub fn fill<R: Read>(from: &mut R, buf: &mut [u8]) -> Took
     ensures { Taken result buf.new }
 {
     let mut done: usize = 0;
     while done < buf.len() {
-        let took = some(fd, &mut buf[done..]);
+        let took = some(from, &mut buf[done..]);
         if took.failed {
             return none();
         }
@@ -63,38 +67,57 @@ pub fn fill(fd: i32, buf: &mut [u8]) -> Took
     }
 }
 
+// The same, but a read that fails ends it too: how many bytes came before.
+pub fn read_full<R: Read>(from: &mut R, buf: &mut [u8]) -> usize
+    ensures { IsPrefixLen result buf.new }
+{
+    let mut done: usize = 0;
+    while done < buf.len() {
+        let took = some(from, &mut buf[done..]);
+        if took.size == 0 {
+            return done;
+        }
+        done += took.size;
+    }
+    done
+}
+
+// The file of that name, to be read. The library takes names in UTF-8 alone.
+pub fn opened<F: Files>(rt: &F, name: &[u8]) -> Option<F::File> {
+    match str::from_utf8(name) {
+        Ok(text) => fs::open(rt, text).ok(),
+        Err(_) => None,
+    }
+}
+
 // The first bytes of a file, at most as many as the buffer has.
-pub fn file(name: &[u8], buf: &mut [u8]) -> Took
+pub fn file(rt: &impl Files, name: &[u8], buf: &mut [u8]) -> Took
     ensures { Taken result buf.new }
 {
-    let fd = os::open_read(name);
-    if fd < 0 {
-        return none();
+    match opened(rt, name) {
+        Some(mut found) => fill(&mut found, buf),
+        None => none(),
     }
-    let took = fill(fd, buf);
-    libc::close(fd);
-    took
 }
 
 // A missing ram.bin counts as 0 bytes.
-pub fn load(ram: &mut [u8]) -> Loaded
+pub fn load(rt: &impl Files, ram: &mut [u8]) -> Loaded
     ensures { length ram.new ≡ length ram.old }
 {
-    let fd = os::open_read(b"ram.bin");
-    if fd < 0 {
-        if os::errno() == libc::ENOENT {
-            return Loaded::OtherLength;
+    match fs::open(rt, "ram.bin") {
+        Ok(mut found) => image(&mut found, ram),
+        Err(e) => {
+            if e.kind() == ErrorKind::NotFound {
+                return Loaded::OtherLength;
+            }
+            Loaded::Unreadable
         }
-        return Loaded::Unreadable;
     }
-    let loaded = image(fd, ram);
-    libc::close(fd);
-    loaded
 }
 
 // One byte more is asked for, to see that there is none.
-fn image(fd: i32, ram: &mut [u8]) -> Loaded {
-    let took = fill(fd, ram);
+fn image<R: Read>(from: &mut R, ram: &mut [u8]) -> Loaded {
+    let took = fill(from, ram);
     if took.failed {
         return Loaded::Unreadable;
     }
@@ -102,7 +125,7 @@ fn image(fd: i32, ram: &mut [u8]) -> Loaded {
         return Loaded::OtherLength;
     }
     let mut more = [0u8; 1];
-    let behind = fill(fd, &mut more);
+    let behind = fill(from, &mut more);
     if behind.failed {
         return Loaded::Unreadable;
     }

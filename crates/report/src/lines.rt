@@ -1,25 +1,25 @@
-// The lines: numbers in decimal, bytes in two capital hex digits, digests in sixteen. Each answers whether it went out.
+// The lines: numbers in decimal, bytes in two capital hex digits, digests in sixteen. Each answers whether it went out:
+// `out` is standard output, or whatever else prints.
 ghost use Rattle.std.specs.Prelude.{◌≡◌, ◌<◌};
 ghost use Rattle.report.specs.Hex.{capital, in_hex};
 
 use dsp::Dsp;
-use libc::{STDERR_FILENO, STDOUT_FILENO};
 
-pub fn say(words: &[u8]) -> bool {
-    io::write_all(STDOUT_FILENO, words)
+pub fn say(out: &impl Print, words: &[u8]) -> bool {
+    out.write_all(words).is_ok()
 }
 
-pub fn complain(words: &[u8]) {
-    io::write_all(STDERR_FILENO, words);
+pub fn complain(errors: &impl Print, words: &[u8]) {
+    let _ = errors.write_all(words);
 }
 
-pub fn number(n: u64) -> bool {
-    io::print_decimal(STDOUT_FILENO, n)
+pub fn number(out: &impl Print, n: u64) -> bool {
+    print!(out; "{n}").is_ok()
 }
 
 // A line of words and a number.
-pub fn numbered(words: &[u8], n: u64) -> bool {
-    say(words) && number(n) && say(b"\n")
+pub fn numbered(out: &impl Print, words: &[u8], n: u64) -> bool {
+    say(out, words) && number(out, n) && say(out, b"\n")
 }
 
 fn digit(n: u8) -> u8
@@ -35,35 +35,39 @@ pub fn hex_of(value: u8) -> [u8; 2]
     [digit(value / 16), digit(value % 16)]
 }
 
-pub fn hex(value: u8) -> bool {
+pub fn hex(out: &impl Print, value: u8) -> bool {
     let text = hex_of(value);
-    say(&text)
+    say(out, &text)
 }
 
-fn byte(value: u8) -> bool {
-    say(b" ") && hex(value)
+fn byte(out: &impl Print, value: u8) -> bool {
+    say(out, b" ") && hex(out, value)
 }
 
-pub fn reading(running: u64, register: u8, value: u8) -> bool {
-    say(b"Q ") && number(running) && byte(register) && byte(value) && say(b"\n")
+pub fn reading(out: &impl Print, running: u64, register: u8, value: u8) -> bool {
+    say(out, b"Q ")
+        && number(out, running)
+        && byte(out, register)
+        && byte(out, value)
+        && say(out, b"\n")
 }
 
-pub fn end(ticks: u64, readings: u64) -> bool {
-    say(b"END ") && number(ticks) && numbered(b" ", readings)
+pub fn end(out: &impl Print, ticks: u64, readings: u64) -> bool {
+    say(out, b"END ") && number(out, ticks) && numbered(out, b" ", readings)
 }
 
-pub fn refused(refusal: u8) -> bool {
-    numbered(b"REFUSED ", refusal as u64)
+pub fn refused(out: &impl Print, refusal: u8) -> bool {
+    numbered(out, b"REFUSED ", refusal as u64)
 }
 
-pub fn registers(dsp: Dsp) -> bool {
-    let mut out = say(b"REG");
+pub fn registers(out: &impl Print, dsp: Dsp) -> bool {
+    let mut went = say(out, b"REG");
     let mut register: u8 = 0;
     while register < 128 {
-        out = byte(dsp.read_reg(register)) & out;
+        went = byte(out, dsp.read_reg(register)) & went;
         register += 1;
     }
-    say(b"\n") & out
+    say(out, b"\n") & went
 }
 
 pub fn digits_of(sum: u64) -> [u8; 16]
@@ -80,7 +84,7 @@ pub fn digits_of(sum: u64) -> [u8; 16]
     text
 }
 
-pub fn digest(words: &[u8], sum: u64) -> bool {
+pub fn digest(out: &impl Print, words: &[u8], sum: u64) -> bool {
     let text = digits_of(sum);
-    say(words) && say(&text) && say(b"\n")
+    say(out, words) && say(out, &text) && say(out, b"\n")
 }

@@ -1,6 +1,6 @@
 // A log run whole, with slices exactly as long as it needs, and what that gives.
 ghost use Rattle.std.specs.Prelude.{◌≡◌, ◌<◌, ◌≤◌, length};
-ghost use Rattle.io.specs.Counts.{IsPrefixLen};
+ghost use Rattle.std.specs.Counts.{IsPrefixLen};
 ghost use Rattle.numbers.specs.Bytes.{copied};
 ghost use Rattle.numbers.specs.Unsigned.{least as leastOf};
 ghost use Rattle.dsp.specs.Run.{Outcome, run_of};
@@ -70,13 +70,21 @@ pub struct Whole {
 
 // From `new` by `run_new`, or from a record by `run`; told or not. Room for any log: 32,000 ticks with 4 bytes of PCM and 36 of
 // sheet each, 20,000 readings with 3 bytes of the log each.
-pub fn run_whole(of_new: bool, told: bool, start: Dsp, log: &[u8], ram: &mut [u8]) -> Whole
+pub fn run_whole(
+    out: &impl Print,
+    of_new: bool,
+    told: bool,
+    start: Dsp,
+    log: &[u8],
+    ram: &mut [u8],
+) -> Whole
     ensures { ◌≡◌ {A = Through} (record { refusal = result.refusal; dsp = result.dsp; left = result.left; ram = ram.new }) (whole_of told (start_from of_new start) ram.old log.now) }
 {
     let mut pcm = [0; 128000];
     let mut sheet = [0; 1152000];
     let mut readings = [0; 20000];
     run_in(
+        out,
         of_new,
         told,
         start,
@@ -90,6 +98,7 @@ pub fn run_whole(of_new: bool, told: bool, start: Dsp, log: &[u8], ram: &mut [u8
 
 // Behind a reference an array's length is its type's, and no check has to count a million bytes.
 fn run_in(
+    out: &impl Print,
     of_new: bool,
     told: bool,
     start: Dsp,
@@ -101,10 +110,11 @@ fn run_in(
 ) -> Whole
     ensures { ◌≡◌ {A = Through} (record { refusal = result.refusal; dsp = result.dsp; left = result.left; ram = ram.new }) (through told (run_cut (start_from of_new start) ram.old log.now pcm.old sheet.old readings.old)) }
 {
-    run_told(of_new, told, start, log, ram, pcm, sheet, readings)
+    run_told(out, of_new, told, start, log, ram, pcm, sheet, readings)
 }
 
 fn run_told(
+    out: &impl Print,
     of_new: bool,
     told: bool,
     start: Dsp,
@@ -122,7 +132,7 @@ fn run_told(
         return Whole {
             refusal: r.refusal,
             dsp: d,
-            left: tell(r, log, ram, pcm, sheet, readings),
+            left: tell(out, r, log, ram, pcm, sheet, readings),
         };
     }
     Whole {
@@ -176,11 +186,20 @@ pub fn run_on(
 }
 
 // Of what was lent, what a run with such an answer was lent and has filled.
-pub fn tell(r: Ran, log: &[u8], ram: &[u8], pcm: &[u8], sheet: &[u8], readings: &[u8]) -> Left
+pub fn tell(
+    out: &impl Print,
+    r: Ran,
+    log: &[u8],
+    ram: &[u8],
+    pcm: &[u8],
+    sheet: &[u8],
+    readings: &[u8],
+) -> Left
     ensures { result ≡ left_of r.dsp r.ticks r.readings ram.now pcm.now sheet.now readings.now }
 {
     let n = room_for(r.ticks, r.readings).within(pcm.len(), sheet.len(), readings.len());
     tell_cut(
+        out,
         r,
         log,
         ram,
@@ -190,29 +209,37 @@ pub fn tell(r: Ran, log: &[u8], ram: &[u8], pcm: &[u8], sheet: &[u8], readings: 
     )
 }
 
-fn tell_cut(r: Ran, log: &[u8], ram: &[u8], pcm: &[u8], sheet: &[u8], readings: &[u8]) -> Left
+fn tell_cut(
+    out: &impl Print,
+    r: Ran,
+    log: &[u8],
+    ram: &[u8],
+    pcm: &[u8],
+    sheet: &[u8],
+    readings: &[u8],
+) -> Left
     ensures { result ≡ left_by r.dsp ram.now (digest_of pcm.now) (digest_of readings.now) }
 {
     let d = r.dsp;
     let left = Left::by(d, ram, with_bytes(EMPTY, pcm), with_bytes(EMPTY, readings));
-    tell_lines(r, log, left, sheet, readings);
+    tell_lines(out, r, log, left, sheet, readings);
     left
 }
 
-fn tell_lines(r: Ran, log: &[u8], left: Left, sheet: &[u8], readings: &[u8]) {
+fn tell_lines(out: &impl Print, r: Ran, log: &[u8], left: Left, sheet: &[u8], readings: &[u8]) {
     if r.refusal != 0 {
-        lines::refused(r.refusal);
+        lines::refused(out, r.refusal);
         return;
     }
     let d = r.dsp;
     let mut registers = [0u8; 20000];
     let n = registers_read(log, &mut registers);
-    tell_readings(&registers[..n], readings);
-    lines::end(r.ticks as u64, r.readings as u64);
-    lines::registers(d);
-    lines::digest(b"RAM ", left.ram);
-    lines::digest(b"PCM ", left.pcm);
-    lines::digest(b"SHEET ", with_bytes(EMPTY, sheet));
+    tell_readings(out, &registers[..n], readings);
+    lines::end(out, r.ticks as u64, r.readings as u64);
+    lines::registers(out, d);
+    lines::digest(out, b"RAM ", left.ram);
+    lines::digest(out, b"PCM ", left.pcm);
+    lines::digest(out, b"SHEET ", with_bytes(EMPTY, sheet));
 }
 
 // The registers of a log's readings, in their order, as many as there is room for.
@@ -234,11 +261,11 @@ pub fn registers_read(log: &[u8], to: &mut [u8]) -> usize
     put
 }
 
-fn tell_readings(registers: &[u8], readings: &[u8]) {
+fn tell_readings(out: &impl Print, registers: &[u8], readings: &[u8]) {
     let n = least(registers.len(), readings.len());
     let mut i: usize = 0;
     while i < n {
-        lines::reading(i as u64 + 1, registers[i], readings[i]);
+        lines::reading(out, i as u64 + 1, registers[i], readings[i]);
         i += 1;
     }
 }
