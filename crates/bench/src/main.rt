@@ -12,71 +12,68 @@ use report::input::Loaded;
 use report::lines::complain;
 use report::{input, lines};
 use running::Ran;
+use std::fs;
+use std::os::fd::AsRawFd;
 
 // RAM is checked before the log is read.
-fn main() {
-    let mut ram = io::large_buffer();
-    match input::load(&mut ram) {
-        Loaded::Whole => with_ram(&mut ram),
-        Loaded::OtherLength => told(lines::refused(1)),
-        Loaded::Unreadable => complain(b"bench: cannot read ram.bin\n"),
+fn main(rt: HostRuntime) {
+    let mut ram = [0u8; 65536];
+    match input::load(&rt, &mut ram) {
+        Loaded::Whole => with_ram(&rt, &mut ram),
+        Loaded::OtherLength => told(&rt, lines::refused(&rt, 1)),
+        Loaded::Unreadable => complain(&rt.stderr(), b"bench: cannot read ram.bin\n"),
     }
 }
 
 // One byte more than a log may have: input without an end is over the limit, and no more of it is read.
-fn with_ram(ram: &mut [u8]) {
+fn with_ram(rt: &HostRuntime, ram: &mut [u8]) {
     let mut log = [0u8; 60001];
-    let took = input::fill(libc::STDIN_FILENO, &mut log);
+    let took = input::fill(&mut rt.stdin(), &mut log);
     if took.failed {
-        complain(b"bench: cannot read standard input\n");
+        complain(&rt.stderr(), b"bench: cannot read standard input\n");
         return;
     }
     let n = took.size;
-    with_log(ram, &log[..n]);
+    with_log(rt, ram, &log[..n]);
 }
 
 // The whole log is checked before out.pcm is opened.
-fn with_log(ram: &mut [u8], log: &[u8])
+fn with_log(rt: &HostRuntime, ram: &mut [u8], log: &[u8])
     requires { length log.now ≤ 0x10000 }
 {
     let m = chip_log::measure(log);
     if m.refusal != 0 {
-        told(lines::refused(m.refusal));
+        told(rt, lines::refused(rt, m.refusal));
         return;
     }
-    tell(m, with_file(ram, log));
+    tell(rt, m, with_file(rt, ram, log));
 }
 
 // Where standard output is closed, its number goes to the file that is opened next.
-fn with_file(ram: &mut [u8], log: &[u8]) -> Ran
+fn with_file(rt: &HostRuntime, ram: &mut [u8], log: &[u8]) -> Ran
     requires { length log.now ≤ 0x10000 }
 {
-    let out = os::open_overwrite(b"out.pcm");
-    if out < 0 {
+    let Ok(mut out) = fs::create(rt, "out.pcm") else {
         return Ran::NoSound;
-    }
-    if out == libc::STDOUT_FILENO {
+    };
+    if out.as_raw_fd() == rt.stdout().as_raw_fd() {
         return Ran::NoLines;
     }
-    let ran = running::run(ram, log, out);
-    if libc::close(out) < 0 {
-        return Ran::NoSound;
-    }
-    ran
+    running::run(rt, ram, log, &mut out)
 }
 
-fn tell(m: Measured, ran: Ran) {
+fn tell(rt: &HostRuntime, m: Measured, ran: Ran) {
     match ran {
-        Ran::Whole => told(lines::end(m.ticks as u64, m.readings as u64)),
-        Ran::Refused(refusal) => told(lines::refused(refusal)),
-        Ran::NoSound => complain(b"bench: cannot write out.pcm\n"),
-        Ran::NoLines => told(false),
+        Ran::Whole => told(rt, lines::end(rt, m.ticks as u64, m.readings as u64)),
+        Ran::Refused(refusal) => told(rt, lines::refused(rt, refusal)),
+        Ran::NoSound => complain(&rt.stderr(), b"bench: cannot write out.pcm\n"),
+        Ran::NoLines => told(rt, false),
     }
 }
 
 // Whether a line went out.
-fn told(written: bool) {
+fn told(rt: &HostRuntime, written: bool) {
     if !written {
-        complain(b"bench: cannot write standard output\n");
+        complain(&rt.stderr(), b"bench: cannot write standard output\n");
     }
 }

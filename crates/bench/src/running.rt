@@ -5,6 +5,7 @@ ghost use Rattle.bench.specs.Turn.{Fits, Done};
 use dsp::Dsp;
 use report::lines;
 use sitting::{Heard, Stage, run_part};
+use std::io::Write;
 
 // How a run ended. `measure` has taken the log, so no part is refused; were one, its number is what is said.
 #[derive(Clone, Copy)]
@@ -22,11 +23,11 @@ enum Put {
     Off(Ran),
 }
 
-// From `new`, the samples to the descriptor `out`.
-pub fn run(ram: &mut [u8], log: &[u8], out: i32) -> Ran
+// From `new`, the samples to the writer `out`.
+pub fn run<W: Write>(rt: &impl Print, ram: &mut [u8], log: &[u8], out: &mut W) -> Ran
     requires { length log.now ≤ 0x10000 }
 {
-    let mut pcm = io::buffer();
+    let mut pcm = [0u8; 4096];
     let mut stage = Stage::new(Dsp::new());
     let mut readings: u64 = 0;
     loop {
@@ -36,7 +37,7 @@ pub fn run(ram: &mut [u8], log: &[u8], out: i32) -> Ran
         }
         let heard = part.heard;
         let next = part.stage;
-        match put_out(heard, readings, &pcm, out) {
+        match put_out(rt, heard, readings, &pcm, out) {
             Put::On(printed) => {
                 readings = printed;
                 stage = next;
@@ -48,7 +49,7 @@ pub fn run(ram: &mut [u8], log: &[u8], out: i32) -> Ran
     }
 }
 
-fn put_out(heard: Heard, readings: u64, pcm: &[u8], out: i32) -> Put
+fn put_out<W: Write>(rt: &impl Print, heard: Heard, readings: u64, pcm: &[u8], out: &mut W) -> Put
     requires { Fits heard (length pcm.now) × (readings < 0x100000000) }
     ensures { Done heard readings result }
 {
@@ -56,14 +57,14 @@ fn put_out(heard: Heard, readings: u64, pcm: &[u8], out: i32) -> Put
         Heard::Nothing => Put::On(readings),
         Heard::Sound(ticks) => {
             let end = (ticks as usize) * 4;
-            if io::write_all(out, &pcm[..end]) {
+            if out.write_all(&pcm[..end]).is_ok() {
                 return Put::On(readings);
             }
             Put::Off(Ran::NoSound)
         }
         Heard::Reading { register, value } => {
             let number = readings + 1;
-            if lines::reading(number, register, value) {
+            if lines::reading(rt, number, register, value) {
                 return Put::On(number);
             }
             Put::Off(Ran::NoLines)

@@ -12,55 +12,55 @@ use report::input;
 use report::input::Loaded;
 use report::lines::complain;
 
-fn main() {
-    let mut ram = io::large_buffer();
-    let loaded = input::load(&mut ram);
+fn main(rt: HostRuntime) {
+    let mut ram = [0u8; 65536];
+    let loaded = input::load(&rt, &mut ram);
     let mut own = ram;
     match loaded {
-        Loaded::Whole => with_ram(&ram, &mut own),
-        Loaded::OtherLength => told(words::refused(1, false)),
-        Loaded::Unreadable => complain(b"remark: cannot read ram.bin\n"),
+        Loaded::Whole => with_ram(&rt, &ram, &mut own),
+        Loaded::OtherLength => told(&rt, words::refused(&rt, 1, false)),
+        Loaded::Unreadable => complain(&rt.stderr(), b"remark: cannot read ram.bin\n"),
     }
 }
 
-fn with_ram(ram: &[u8], own: &mut [u8]) {
+fn with_ram(rt: &HostRuntime, ram: &[u8], own: &mut [u8]) {
     let mut named = [0u8; 2];
-    let took = input::file(b"named.bin", &mut named);
+    let took = input::file(rt, b"named.bin", &mut named);
     if took.failed {
-        complain(b"remark: cannot read named.bin\n");
+        complain(&rt.stderr(), b"remark: cannot read named.bin\n");
     } else if took.size != 1 {
-        complain(b"remark: named.bin is not one byte\n");
+        complain(&rt.stderr(), b"remark: named.bin is not one byte\n");
     } else {
-        with_named(ram, own, named[0]);
+        with_named(rt, ram, own, named[0]);
     }
 }
 
 // One byte more than a log may have: input without an end is over the limit, and no more of it is read.
-fn with_named(ram: &[u8], own: &mut [u8], named: u8) {
+fn with_named(rt: &HostRuntime, ram: &[u8], own: &mut [u8], named: u8) {
     let mut old = [0u8; 60001];
-    let took = input::file(b"old.bin", &mut old);
+    let took = input::file(rt, b"old.bin", &mut old);
     if took.failed {
-        complain(b"remark: cannot read old.bin\n");
+        complain(&rt.stderr(), b"remark: cannot read old.bin\n");
         return;
     }
     let n = took.size;
-    with_old(ram, own, named, &old[..n]);
+    with_old(rt, ram, own, named, &old[..n]);
 }
 
-fn with_old(ram: &[u8], own: &mut [u8], named: u8, old: &[u8]) {
+fn with_old(rt: &HostRuntime, ram: &[u8], own: &mut [u8], named: u8, old: &[u8]) {
     let mut new = [0u8; 60001];
-    let took = input::fill(libc::STDIN_FILENO, &mut new);
+    let took = input::fill(&mut rt.stdin(), &mut new);
     if took.failed {
-        complain(b"remark: cannot read standard input\n");
+        complain(&rt.stderr(), b"remark: cannot read standard input\n");
         return;
     }
     let n = took.size;
-    told(telling::told(named, ram, own, old, &new[..n]));
+    told(rt, telling::told(rt, named, ram, own, old, &new[..n]));
 }
 
 // Whether all lines went out.
-fn told(written: bool) {
+fn told(rt: &HostRuntime, written: bool) {
     if !written {
-        complain(b"remark: cannot write standard output\n");
+        complain(&rt.stderr(), b"remark: cannot write standard output\n");
     }
 }

@@ -7,12 +7,20 @@ use crate::words;
 use report::runs::{least, within};
 
 // 32,000 ticks with 4 bytes of PCM and 36 of sheet each, 20,000 readings with 3 bytes of the log each.
-pub fn told(named: u8, ram: &[u8], own: &mut [u8], old: &[u8], new: &[u8]) -> bool {
+pub fn told(
+    out: &impl Print,
+    named: u8,
+    ram: &[u8],
+    own: &mut [u8],
+    old: &[u8],
+    new: &[u8],
+) -> bool {
     let mut pcm = [0; 128000];
     let mut sheet = [0; 1152000];
     let mut before = [0; 20000];
     let mut after = [0; 20000];
     told_in(
+        out,
         named,
         ram,
         own,
@@ -27,6 +35,7 @@ pub fn told(named: u8, ram: &[u8], own: &mut [u8], old: &[u8], new: &[u8]) -> bo
 
 // Behind a reference an array's length is its type's, and no check has to count a million bytes.
 fn told_in(
+    out: &impl Print,
     named: u8,
     ram: &[u8],
     own: &mut [u8],
@@ -37,10 +46,11 @@ fn told_in(
     before: &mut [u8; 20000],
     after: &mut [u8; 20000],
 ) -> bool {
-    told_on(named, ram, own, old, new, pcm, sheet, before, after)
+    told_on(out, named, ram, own, old, new, pcm, sheet, before, after)
 }
 
 fn told_on(
+    out: &impl Print,
     named: u8,
     ram: &[u8],
     own: &mut [u8],
@@ -66,10 +76,11 @@ fn told_on(
         &mut registers,
         &mut numbers,
     );
-    tell(named, answer, &registers, before, after, &numbers)
+    tell(out, named, answer, &registers, before, after, &numbers)
 }
 
 fn tell(
+    out: &impl Print,
     named: u8,
     answer: Answer,
     registers: &[u8],
@@ -79,35 +90,49 @@ fn tell(
 ) -> bool {
     let w = answer.worked;
     if w.refusal != 0 {
-        return words::refused(w.refusal, w.of_old);
+        return words::refused(out, w.refusal, w.of_old);
     }
     let j = answer.judged;
-    words::sets(named, w.members, w.count) && tell_judged(j, registers, before, after, numbers)
+    words::sets(out, named, w.members, w.count)
+        && tell_judged(out, j, registers, before, after, numbers)
 }
 
 // A line for each reading; the last line goes out whether they did or not.
-fn tell_judged(j: Judged, registers: &[u8], before: &[u8], after: &[u8], numbers: &[u64]) -> bool {
+fn tell_judged(
+    out: &impl Print,
+    j: Judged,
+    registers: &[u8],
+    before: &[u8],
+    after: &[u8],
+    numbers: &[u64],
+) -> bool {
     let n = within(j.readings, registers);
     let listed = least(j.listed, numbers.len());
-    let out = tell_readings(&registers[..n], before, after, &numbers[..listed]);
+    let went = tell_readings(out, &registers[..n], before, after, &numbers[..listed]);
     let verdict = j.verdict;
-    words::verdict(j.same, j.readings as u64, verdict) && out
+    words::verdict(out, j.same, j.readings as u64, verdict) && went
 }
 
 // By the list of those that have changed: its next number is this reading's, or this reading is as before.
-fn tell_readings(registers: &[u8], before: &[u8], after: &[u8], changed: &[u64]) -> bool {
+fn tell_readings(
+    out: &impl Print,
+    registers: &[u8],
+    before: &[u8],
+    after: &[u8],
+    changed: &[u64],
+) -> bool {
     let n = least(registers.len(), least(before.len(), after.len()));
-    let mut out = true;
+    let mut went = true;
     let mut next: usize = 0;
     let mut i: usize = 0;
     while i < n {
         let running = i as u64 + 1;
         let is_next = is_at(changed, next, running);
-        out = words::reading(running, registers[i], before[i], after[i], is_next) & out;
+        went = words::reading(out, running, registers[i], before[i], after[i], is_next) & went;
         next = behind(next, is_next);
         i += 1;
     }
-    out
+    went
 }
 
 fn behind(at: usize, is_next: bool) -> usize
