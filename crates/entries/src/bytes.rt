@@ -56,14 +56,14 @@ fn with_playing(d: Dsp, j: usize) -> Dsp
 }
 
 // Voice j after one tick.
-fn ticked(name: &[u8], d: Dsp, j: usize)
+fn ticked(out: &impl Print, name: &[u8], d: Dsp, j: usize)
     requires { j < 8 }
 {
     let mut ram = pointers();
-    told(name, d.step(&mut ram), j);
+    told(out, name, d.step(&mut ram), j);
 }
 
-fn told(name: &[u8], a: Answer, j: usize)
+fn told(out: &impl Print, name: &[u8], a: Answer, j: usize)
     requires { j < 8 }
 {
     let d = a.dsp;
@@ -79,18 +79,18 @@ fn told(name: &[u8], a: Answer, j: usize)
         e.envelope_level as u64,
         b.addr as u64,
     ];
-    say(name);
-    line(b" voice #: step # key_on # @ level $ at $\n", &values);
+    say(out, name);
+    line(out, b" voice #: step # key_on # @ level $ at $\n", &values);
 }
 
 // A poll keys voice 1 off by the byte alone, and no other; a tick that polls nothing leaves it.
-fn koff() {
+fn koff(out: &impl Print) {
     let mut d = with_playing(with_playing(Dsp::new(), 1), 2);
     d.registers[0x5C] = 2;
-    ticked(b"KOFF", d, 1);
-    ticked(b"KOFF", d, 2);
+    ticked(out, b"KOFF", d, 1);
+    ticked(out, b"KOFF", d, 2);
     d.every_other_sample = true;
-    ticked(b"KOFF unpolled", d, 1);
+    ticked(out, b"KOFF unpolled", d, 1);
 }
 
 // KON, DIR, SRCN and FLG, each with a byte that says something else. FLG's byte is $E0.
@@ -107,23 +107,23 @@ fn differing(flg: u8) -> Dsp {
 }
 
 // Key-on takes all four from the fields: entry $1214.
-fn key_on() {
+fn key_on(out: &impl Print) {
     let d = differing(0x20);
-    ticked(b"KON", d, 3);
-    ticked(b"KON", d, 4);
+    ticked(out, b"KON", d, 3);
+    ticked(out, b"KON", d, 4);
     let mut e = differing(0x80);
     e.registers[0x6C] = 0;
-    ticked(b"KON under RESET", e, 3);
+    ticked(out, b"KON under RESET", e, 3);
 }
 
 // A loop jump takes DIR and SRCN from the bytes: entry $3424. The pending KON is held back by FLG's field.
-fn loop_jump() {
+fn loop_jump(out: &impl Print) {
     let d = differing(0x80);
-    ticked(b"loop jump", with_playing(d, 3), 3);
+    ticked(out, b"loop jump", with_playing(d, 3), 3);
 }
 
 // `read_reg` gives the byte, `edl` and `pmon` the field; a read masks its index as a write does.
-fn reads() {
+fn reads(out: &impl Print) {
     let d = readings::differing(0x1F, 0xE0);
     let values = [
         d.read_reg(0x6C) as u64,
@@ -134,26 +134,27 @@ fn reads() {
         d.edl() as u64,
     ];
     line(
+        out,
         b"FLG: read_reg $ $\nPMON: read_reg $ pmon $\nEDL: read_reg $ edl $\n",
         &values,
     );
 }
 
 // A write of one half of the pitch keeps the field's other half, and not the byte's.
-fn pitch() {
+fn pitch(out: &impl Print) {
     let mut d = with(Part::Pitch, 1, 0x1234);
     d.registers[0x13] = 0x3F;
     let a = d.write_reg(0x12, 0x56);
     let e = a.dsp;
     let v = e.voices[1];
     let values = [v.pitch as u64];
-    line(b"PITCH low: pitch $\n", &values);
+    line(out, b"PITCH low: pitch $\n", &values);
 }
 
-pub fn all() {
-    koff();
-    key_on();
-    loop_jump();
-    reads();
-    pitch();
+pub fn all(out: &impl Print) {
+    koff(out);
+    key_on(out);
+    loop_jump(out);
+    reads(out);
+    pitch(out);
 }

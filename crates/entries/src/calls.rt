@@ -33,7 +33,7 @@ pub fn untouched(ram: &[u8]) -> bool {
     same
 }
 
-fn stepped_on(d: Dsp, ram: &mut [u8]) {
+fn stepped_on(out: &impl Print, d: Dsp, ram: &mut [u8]) {
     let a = d.step(ram);
     let e = a.dsp;
     let values = [
@@ -41,19 +41,19 @@ fn stepped_on(d: Dsp, ram: &mut [u8]) {
         same_record(d, e) as u64,
         untouched(ram) as u64,
     ];
-    line(b" step # record ? RAM ?", &values);
+    line(out, b" step # record ? RAM ?", &values);
 }
 
 // A tick on n bytes, which may be one more than RAM has.
-pub fn stepped(d: Dsp, n: usize)
+pub fn stepped(out: &impl Print, d: Dsp, n: usize)
     requires { n ≤ 65537 }
 {
     let mut ram = [FILL; 65537];
-    stepped_on(d, &mut ram[..n]);
+    stepped_on(out, d, &mut ram[..n]);
 }
 
 // A write by value, and the same on the record of a local that is lent.
-fn written(d: Dsp) {
+fn written(out: &impl Print, d: Dsp) {
     let a = d.write_reg(0x0C, 0x7F);
     let b = lent::write_owned(d, 0x0C, 0x7F);
     let e = a.dsp;
@@ -66,6 +66,7 @@ fn written(d: Dsp) {
         same_record(e, f) as u64,
     ];
     line(
+        out,
         b", write_reg # record ?, write_reg_lent # record ? and by value ?",
         &values,
     );
@@ -76,14 +77,14 @@ fn bits(x: i16) -> u64 {
     numbers::high(x) as u64 * 256 + numbers::low(x) as u64
 }
 
-fn rendered(d: Dsp) {
+fn rendered(out: &impl Print, d: Dsp) {
     let s = d.render_audio_single();
     let values = [s.refusal as u64, bits(s.left), bits(s.right)];
-    line(b", render_audio_single # $ $\n", &values);
+    line(out, b", render_audio_single # $ $\n", &values);
 }
 
-pub fn called(d: Dsp) {
-    stepped(d, RAM_SIZE);
-    written(d);
-    rendered(d);
+pub fn called(out: &impl Print, d: Dsp) {
+    stepped(out, d, RAM_SIZE);
+    written(out, d);
+    rendered(out, d);
 }

@@ -7,24 +7,24 @@ use crate::parts::{Part, with};
 use dsp::Dsp;
 use report::lines::say;
 
-fn length(words: &[u8], d: Dsp, n: usize)
+fn length(out: &impl Print, words: &[u8], d: Dsp, n: usize)
     requires { n ≤ 65537 }
 {
     let values = [n as u64];
-    line(b"RAM of #", &values);
-    say(words);
-    stepped(d, n);
-    say(b"\n");
+    line(out, b"RAM of #", &values);
+    say(out, words);
+    stepped(out, d, n);
+    say(out, b"\n");
 }
 
-fn lengths(words: &[u8], d: Dsp) {
-    length(words, d, 0);
-    length(words, d, 65535);
-    length(words, d, 65536);
-    length(words, d, 65537);
+fn lengths(out: &impl Print, words: &[u8], d: Dsp) {
+    length(out, words, d, 0);
+    length(out, words, d, 65535);
+    length(out, words, d, 65536);
+    length(out, words, d, 65537);
 }
 
-pub fn all() {
-    lengths(b", fit:", ready());
-    lengths(b", unfit:", with(Part::Level, 0, 0x801));
+pub fn all(out: &impl Print) {
+    lengths(out, b", fit:", ready());
+    lengths(out, b", unfit:", with(Part::Level, 0, 0x801));
 }

@@ -1,59 +1,62 @@
 // The lines, by their patterns.
 ghost use Rattle.std.specs.Prelude.{◌≤◌};
 
-use libc::STDOUT_FILENO;
-use report::lines::say;
+use report::lines::{number, say};
 
 // How many values the sign stands for: one, # in decimal, $ in hex behind the sign itself, ? as `same` or `changed`, @ as a
 // letter. Any other stands for itself, and for none.
-fn put(sign: u8, value: u64) -> usize
+fn put(out: &impl Print, sign: u8, value: u64) -> usize
     ensures { result ≤ 1 }
 {
     match sign {
         b'#' => {
-            io::print_decimal(STDOUT_FILENO, value);
+            number(out, value);
             1
         }
         b'$' => {
-            say(b"$");
-            io::print_hex(STDOUT_FILENO, value, 1);
+            say(out, b"$");
+            hex(out, value);
             1
         }
         b'?' => {
-            verdict(value == 1);
+            verdict(out, value == 1);
             1
         }
         b'@' => {
-            letter((value % 256) as u8);
+            letter(out, (value % 256) as u8);
             1
         }
         _ => {
-            letter(sign);
+            letter(out, sign);
             0
         }
     }
 }
 
-fn letter(byte: u8) {
-    let text = [byte];
-    say(&text);
+fn hex(out: &impl Print, value: u64) {
+    let _ = print!(out; "{value:x}");
 }
 
-fn verdict(same: bool) {
+fn letter(out: &impl Print, byte: u8) {
+    let text = [byte];
+    say(out, &text);
+}
+
+fn verdict(out: &impl Print, same: bool) {
     if same {
-        say(b"same");
+        say(out, b"same");
     } else {
-        say(b"changed");
+        say(out, b"changed");
     }
 }
 
 // The values in their order; 0 where there are too few.
-pub fn line(pattern: &[u8], values: &[u64]) {
+pub fn line(out: &impl Print, pattern: &[u8], values: &[u64]) {
     let mut used: usize = 0;
     let mut i: usize = 0;
     while i < pattern.len() {
         let value = if used < values.len() { values[used] } else { 0 };
-        used += put(pattern[i], value);
+        used += put(out, pattern[i], value);
         i += 1;
     }
 }

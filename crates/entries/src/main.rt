@@ -22,12 +22,12 @@ mod same;
 mod staged;
 mod turned;
 
-fn main() {
-    lengths::all();
-    limits::all();
-    bytes::all();
-    turned::all();
-    runs::all();
-    staged::all();
-    readings::all();
+fn main(rt: HostRuntime) {
+    lengths::all(&rt);
+    limits::all(&rt);
+    bytes::all(&rt);
+    turned::all(&rt);
+    runs::all(&rt);
+    staged::all(&rt);
+    readings::all(&rt);
 }

@@ -17,30 +17,37 @@ pub fn differing(flg: u8, byte: u8) -> Dsp {
     d
 }
 
-fn value(byte: u8) {
+fn value(out: &impl Print, byte: u8) {
     let values = [byte as u64];
-    line(b" $", &values);
+    line(out, b" $", &values);
 }
 
-fn values(readings: &[u8]) {
+fn values(out: &impl Print, readings: &[u8]) {
     let mut i: usize = 0;
     while i < readings.len() {
-        value(readings[i]);
+        value(out, readings[i]);
         i += 1;
     }
 }
 
-fn told(r: Ran, ram: &[u8], readings: &[u8]) {
+fn told(out: &impl Print, r: Ran, ram: &[u8], readings: &[u8]) {
     let d = r.dsp;
     let before = [r.refusal as u64, untouched(ram) as u64];
-    line(b": # RAM ? readings", &before);
-    values(readings);
+    line(out, b": # RAM ? readings", &before);
+    values(out, readings);
     let behind = [d.pmon() as u64, d.edl() as u64];
-    line(b" pmon $ edl $\n", &behind);
+    line(out, b" pmon $ edl $\n", &behind);
 }
 
 // FLG, PMON and EDL are read before and behind a tick.
-fn read(d: Dsp, ram: &mut [u8], pcm: &mut [u8], sheet: &mut [u8], readings: &mut [u8]) {
+fn read(
+    out: &impl Print,
+    d: Dsp,
+    ram: &mut [u8],
+    pcm: &mut [u8],
+    sheet: &mut [u8],
+    readings: &mut [u8],
+) {
     let r = run(
         d,
         ram,
@@ -49,21 +56,21 @@ fn read(d: Dsp, ram: &mut [u8], pcm: &mut [u8], sheet: &mut [u8], readings: &mut
         sheet,
         readings,
     );
-    told(r, ram, readings);
+    told(out, r, ram, readings);
 }
 
-fn ticked(d: Dsp) {
+fn ticked(out: &impl Print, d: Dsp) {
     let mut ram = [FILL; 65536];
     let mut pcm = [FILL; 4];
     let mut sheet = [FILL; 36];
     let mut readings = [FILL; 6];
-    read(d, &mut ram, &mut pcm, &mut sheet, &mut readings);
+    read(out, d, &mut ram, &mut pcm, &mut sheet, &mut readings);
 }
 
 // Bit 5 of FLG: clear in the field and set in the byte, so that the tick writes RAM; then the other way.
-pub fn all() {
-    say(b"run, echo on by FLG's field");
-    ticked(differing(0x1F, 0xE0));
-    say(b"run, echo off by FLG's field");
-    ticked(differing(0x20, 0x1F));
+pub fn all(out: &impl Print) {
+    say(out, b"run, echo on by FLG's field");
+    ticked(out, differing(0x1F, 0xE0));
+    say(out, b"run, echo off by FLG's field");
+    ticked(out, differing(0x20, 0x1F));
 }

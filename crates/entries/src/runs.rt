@@ -43,16 +43,16 @@ fn start(of_new: bool, fit: bool) -> Dsp {
     if of_new { Dsp::new() } else { ready() }
 }
 
-fn named(of_new: bool, name: &[u8]) {
+fn named(out: &impl Print, of_new: bool, name: &[u8]) {
     if of_new {
-        say(b"run_new, ");
+        say(out, b"run_new, ");
     } else {
-        say(b"run, ");
+        say(out, b"run, ");
     }
-    say(name);
+    say(out, name);
 }
 
-fn answered(d: Dsp, r: Ran) {
+fn answered(out: &impl Print, d: Dsp, r: Ran) {
     let e = r.dsp;
     let values = [
         r.refusal as u64,
@@ -60,20 +60,21 @@ fn answered(d: Dsp, r: Ran) {
         r.readings as u64,
         same_record(d, e) as u64,
     ];
-    line(b": # ticks # readings # record ?", &values);
+    line(out, b": # ticks # readings # record ?", &values);
 }
 
-fn kept(ram: &[u8], pcm: &[u8], sheet: &[u8], readings: &[u8]) {
+fn kept(out: &impl Print, ram: &[u8], pcm: &[u8], sheet: &[u8], readings: &[u8]) {
     let values = [
         untouched(ram) as u64,
         untouched(pcm) as u64,
         untouched(sheet) as u64,
         untouched(readings) as u64,
     ];
-    line(b" RAM ? PCM ? sheet ? readings ?\n", &values);
+    line(out, b" RAM ? PCM ? sheet ? readings ?\n", &values);
 }
 
 fn called(
+    out: &impl Print,
     of_new: bool,
     d: Dsp,
     log: &[u8],
@@ -82,12 +83,12 @@ fn called(
     sheet: &mut [u8],
     readings: &mut [u8],
 ) {
-    answered(d, run_on(of_new, d, ram, log, pcm, sheet, readings));
-    kept(ram, pcm, sheet, readings);
+    answered(out, d, run_on(of_new, d, ram, log, pcm, sheet, readings));
+    kept(out, ram, pcm, sheet, readings);
 }
 
 // One call, on bytes that are all alike before it.
-fn tried(name: &[u8], log: &[u8], c: Call)
+fn tried(out: &impl Print, name: &[u8], log: &[u8], c: Call)
     requires { (c.ram ≤ 65537) × (c.pcm ≤ 13) × (c.sheet ≤ 109) × (c.readings ≤ 3) }
 {
     let mut ram = [FILL; 65537];
@@ -98,8 +99,9 @@ fn tried(name: &[u8], log: &[u8], c: Call)
     let p = c.pcm;
     let s = c.sheet;
     let q = c.readings;
-    named(c.of_new, name);
+    named(out, c.of_new, name);
     called(
+        out,
         c.of_new,
         start(c.of_new, c.fit),
         log,
@@ -111,50 +113,56 @@ fn tried(name: &[u8], log: &[u8], c: Call)
 }
 
 // 1: RAM as needed, a byte short and a byte long.
-fn ram_lengths(of_new: bool, log: &[u8]) {
+fn ram_lengths(out: &impl Print, of_new: bool, log: &[u8]) {
     let c = lend(of_new, 12, 108, 2);
-    tried(b"as needed", log, c);
-    tried(b"RAM a byte short", log, Call { ram: 65535, ..c });
-    tried(b"RAM a byte long", log, Call { ram: 65537, ..c });
+    tried(out, b"as needed", log, c);
+    tried(out, b"RAM a byte short", log, Call { ram: 65535, ..c });
+    tried(out, b"RAM a byte long", log, Call { ram: 65537, ..c });
 }
 
 // 10: each of the others a byte short and a byte long.
-fn lengths(of_new: bool, log: &[u8]) {
+fn lengths(out: &impl Print, of_new: bool, log: &[u8]) {
     let c = lend(of_new, 12, 108, 2);
-    tried(b"PCM a byte short", log, Call { pcm: 11, ..c });
-    tried(b"PCM a byte long", log, Call { pcm: 13, ..c });
-    tried(b"sheet a byte short", log, Call { sheet: 107, ..c });
-    tried(b"sheet a byte long", log, Call { sheet: 109, ..c });
-    tried(b"readings a byte short", log, Call { readings: 1, ..c });
-    tried(b"readings a byte long", log, Call { readings: 3, ..c });
+    tried(out, b"PCM a byte short", log, Call { pcm: 11, ..c });
+    tried(out, b"PCM a byte long", log, Call { pcm: 13, ..c });
+    tried(out, b"sheet a byte short", log, Call { sheet: 107, ..c });
+    tried(out, b"sheet a byte long", log, Call { sheet: 109, ..c });
+    tried(
+        out,
+        b"readings a byte short",
+        log,
+        Call { readings: 1, ..c },
+    );
+    tried(out, b"readings a byte long", log, Call { readings: 3, ..c });
 }
 
 // A log without ticks and readings takes empty slices, and no others.
-fn empty(of_new: bool, log: &[u8]) {
+fn empty(out: &impl Print, of_new: bool, log: &[u8]) {
     let c = lend(of_new, 0, 0, 0);
-    tried(b"nothing needed", log, c);
-    tried(b"no PCM needed", log, Call { pcm: 1, ..c });
-    tried(b"no sheet needed", log, Call { sheet: 1, ..c });
-    tried(b"no readings needed", log, Call { readings: 1, ..c });
+    tried(out, b"nothing needed", log, c);
+    tried(out, b"no PCM needed", log, Call { pcm: 1, ..c });
+    tried(out, b"no sheet needed", log, Call { sheet: 1, ..c });
+    tried(out, b"no readings needed", log, Call { readings: 1, ..c });
 }
 
 // 3, 4 and 5 come before 10.
-fn marks(of_new: bool) {
+fn marks(out: &impl Print, of_new: bool) {
     let c = lend(of_new, 1, 1, 1);
-    tried(b"log too long", &[0; 60001], c);
-    tried(b"unknown mark", b"XXND", c);
-    tried(b"log stops in a mark", b"T", c);
-    tried(b"log stops in a record", b"TK\x01", c);
+    tried(out, b"log too long", &[0; 60001], c);
+    tried(out, b"unknown mark", b"XXND", c);
+    tried(out, b"log stops in a mark", b"T", c);
+    tried(out, b"log stops in a record", b"TK\x01", c);
 }
 
 // And so do 6 to 9. 1 comes before all.
-fn records(of_new: bool) {
+fn records(out: &impl Print, of_new: bool) {
     let c = lend(of_new, 1, 1, 1);
-    tried(b"register $80", b"QA\x80ND", c);
-    tried(b"count 0", b"TK\x00\x00ND", c);
-    tried(b"no end record", b"", c);
-    tried(b"a byte behind the end", b"NDN", c);
+    tried(out, b"register $80", b"QA\x80ND", c);
+    tried(out, b"count 0", b"TK\x00\x00ND", c);
+    tried(out, b"no end record", b"", c);
+    tried(out, b"a byte behind the end", b"NDN", c);
     tried(
+        out,
         b"RAM a byte short, unknown mark",
         b"XXND",
         Call { ram: 65535, ..c },
@@ -162,37 +170,43 @@ fn records(of_new: bool) {
 }
 
 // 2 comes before all but 1.
-fn unfit(log: &[u8]) {
+fn unfit(out: &impl Print, log: &[u8]) {
     let a = lend(false, 12, 108, 2);
     let b = lend(false, 1, 1, 1);
     let c = Call { fit: false, ..a };
     let w = Call { fit: false, ..b };
-    tried(b"unfit", log, c);
-    tried(b"unfit, wrong lengths", log, w);
-    tried(b"unfit, unknown mark", b"XXND", c);
-    tried(b"unfit, unknown mark, wrong lengths", b"XXND", w);
-    tried(b"unfit, log too long, wrong lengths", &[0; 60001], w);
-    tried(b"unfit, RAM a byte short", log, Call { ram: 65535, ..c });
+    tried(out, b"unfit", log, c);
+    tried(out, b"unfit, wrong lengths", log, w);
+    tried(out, b"unfit, unknown mark", b"XXND", c);
+    tried(out, b"unfit, unknown mark, wrong lengths", b"XXND", w);
+    tried(out, b"unfit, log too long, wrong lengths", &[0; 60001], w);
     tried(
+        out,
+        b"unfit, RAM a byte short",
+        log,
+        Call { ram: 65535, ..c },
+    );
+    tried(
+        out,
         b"unfit, RAM a byte long, unknown mark, wrong lengths",
         b"XXND",
         Call { ram: 65537, ..w },
     );
 }
 
-fn both(of_new: bool, log: &[u8]) {
-    ram_lengths(of_new, log);
-    lengths(of_new, log);
-    empty(of_new, b"ND");
-    tried(b"a write alone", b"RWl\x00ND", lend(of_new, 0, 0, 0));
-    marks(of_new);
-    records(of_new);
+fn both(out: &impl Print, of_new: bool, log: &[u8]) {
+    ram_lengths(out, of_new, log);
+    lengths(out, of_new, log);
+    empty(out, of_new, b"ND");
+    tried(out, b"a write alone", b"RWl\x00ND", lend(of_new, 0, 0, 0));
+    marks(out, of_new);
+    records(out, of_new);
 }
 
 // Echo on, a reading, three ticks, a reading: each byte that is lent for them has something to take.
-pub fn all() {
+pub fn all(out: &impl Print) {
     let log = b"RWl\x00QAlTK\x03\x00QAlND";
-    both(false, log);
-    unfit(log);
-    both(true, log);
+    both(out, false, log);
+    unfit(out, log);
+    both(out, true, log);
 }

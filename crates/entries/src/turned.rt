@@ -156,29 +156,29 @@ fn run(x: Dsp, y: Dsp, ram: &mut [u8], other: &mut [u8]) -> Pair {
     p
 }
 
-fn compared(name: &[u8], a: Dsp, b: Dsp) {
+fn compared(out: &impl Print, name: &[u8], a: Dsp, b: Dsp) {
     let mut ram = looping();
     let mut other = looping();
     let p = run(a, b, &mut ram, &mut other);
-    told(name, p, same_bytes(&ram, &other));
+    told(out, name, p, same_bytes(&ram, &other));
 }
 
-fn told(name: &[u8], p: Pair, ram: bool) {
-    say(name);
+fn told(out: &impl Print, name: &[u8], p: Pair, ram: bool) {
+    say(out, name);
     let values = [p.fields as u64, p.samples as u64, ram as u64];
-    line(b" fields ? samples ? RAM ?", &values);
+    line(out, b" fields ? samples ? RAM ?", &values);
     if p.heard {
-        say(b" heard\n");
+        say(out, b" heard\n");
     } else {
-        say(b" silent\n");
+        say(out, b" silent\n");
     }
 }
 
-pub fn all() {
+pub fn all(out: &impl Print) {
     let d = lively();
     let e = turned_over(d);
-    compared(b"other bytes turned over:", d, e);
+    compared(out, b"other bytes turned over:", d, e);
     let mut f = e;
     f.registers[0x5C] = 0xFF;
-    compared(b"KOFF turned over too:", d, f);
+    compared(out, b"KOFF turned over too:", d, f);
 }

@@ -3,8 +3,11 @@
 use crate::redone::{Asked, redo, spoiled};
 use dsp::Dsp;
 use report::cases::{image, stored_log};
+use report::input::read_full;
 use report::lines::{numbered, say};
 use report::runs::run_whole;
+use std::io::Read;
+use std::rt::Files;
 
 // A file may have no end, as a device has none: no more cases than these are read.
 const CASES_MOST: u64 = 1000;
@@ -25,10 +28,10 @@ struct Back {
 // Of a log that has its end record alone.
 const END_SIZE: usize = 2;
 
-pub fn all(fd: i32) {
+pub fn all<R: Read>(rt: &(impl Files + Print), file: &mut R) {
     let mut number: u64 = 1;
     while number <= CASES_MOST {
-        if !next(fd, number) {
+        if !next(rt, file, number) {
             return;
         }
         number += 1;
@@ -36,15 +39,15 @@ pub fn all(fd: i32) {
 }
 
 // Whether there was a pair to rework.
-fn next(fd: i32, number: u64) -> bool {
+fn next<R: Read>(rt: &(impl Files + Print), file: &mut R, number: u64) -> bool {
     let mut head = [0u8; 4];
-    let got = io::read_full(fd, &mut head);
+    let got = read_full(file, &mut head);
     if got == 0 {
         return false;
     }
     let ram = head[0];
     if got < HEAD || ram >= IMAGES {
-        return stops();
+        return stops(rt);
     }
     let asked = Asked {
         ram,
@@ -52,65 +55,88 @@ fn next(fd: i32, number: u64) -> bool {
         lent: head[2],
         unfit: head[3],
     };
-    numbered(b"CASE ", number);
-    with_preludes(fd, asked)
+    numbered(rt, b"CASE ", number);
+    with_preludes(rt, file, asked)
 }
 
-fn stops() -> bool {
-    say(b"cases stops inside a case\n");
+fn stops(out: &impl Print) -> bool {
+    say(out, b"cases stops inside a case\n");
     false
 }
 
-fn with_preludes(fd: i32, asked: Asked) -> bool {
-    let p = run_next(fd, asked.ram, true, false, Dsp::new());
-    let q = run_next(fd, asked.ram, true, false, Dsp::new());
+fn with_preludes<R: Read>(rt: &(impl Files + Print), file: &mut R, asked: Asked) -> bool {
+    let p = run_next(rt, file, asked.ram, true, false, Dsp::new());
+    let q = run_next(rt, file, asked.ram, true, false, Dsp::new());
     if p.stops | q.stops {
-        return stops();
+        return stops(rt);
     }
     let from = p.dsp;
     let start = spoiled(q.dsp, asked.unfit % 2 == 1);
     let of_new = (asked.unfit == 0) & (p.size == END_SIZE) & (q.size == END_SIZE);
-    with_old(fd, asked, of_new, from, start)
+    with_old(rt, file, asked, of_new, from, start)
 }
 
-fn with_old(fd: i32, asked: Asked, of_new: bool, from: Dsp, start: Dsp) -> bool {
-    let mut log = io::large_buffer();
-    let found = stored_log(fd, &mut log);
+fn with_old<R: Read>(
+    rt: &(impl Files + Print),
+    file: &mut R,
+    asked: Asked,
+    of_new: bool,
+    from: Dsp,
+    start: Dsp,
+) -> bool {
+    let mut log = [0u8; 65536];
+    let found = stored_log(file, &mut log);
     if found.failed {
-        return stops();
+        return stops(rt);
     }
     let n = found.size;
-    with_new(fd, asked, of_new, from, start, &log[..n])
+    with_new(rt, file, asked, of_new, from, start, &log[..n])
 }
 
-fn with_new(fd: i32, asked: Asked, of_new: bool, from: Dsp, start: Dsp, old: &[u8]) -> bool {
-    let mut log = io::large_buffer();
-    let found = stored_log(fd, &mut log);
+fn with_new<R: Read>(
+    rt: &(impl Files + Print),
+    file: &mut R,
+    asked: Asked,
+    of_new: bool,
+    from: Dsp,
+    start: Dsp,
+    old: &[u8],
+) -> bool {
+    let mut log = [0u8; 65536];
+    let found = stored_log(file, &mut log);
     if found.failed {
-        return stops();
+        return stops(rt);
     }
     let n = found.size;
     with_tail(
-        fd,
+        rt,
+        file,
         asked.ram,
-        redo(asked, of_new, from, start, old, &log[..n]),
+        redo(rt, asked, of_new, from, start, old, &log[..n]),
     )
 }
 
 // From the record that the rework gave back.
-fn with_tail(fd: i32, ram: u8, back: Dsp) -> bool {
-    say(b"TAIL\n");
-    let t = run_next(fd, ram, false, true, back);
+fn with_tail<R: Read>(rt: &(impl Files + Print), file: &mut R, ram: u8, back: Dsp) -> bool {
+    say(rt, b"TAIL\n");
+    let t = run_next(rt, file, ram, false, true, back);
     if t.stops {
-        return stops();
+        return stops(rt);
     }
     true
 }
 
 // The next log of the file, from `new` or from a record, told or not, on the image.
-fn run_next(fd: i32, ram: u8, of_new: bool, told: bool, start: Dsp) -> Back {
-    let mut log = io::large_buffer();
-    let found = stored_log(fd, &mut log);
+fn run_next<R: Read>(
+    rt: &(impl Files + Print),
+    file: &mut R,
+    ram: u8,
+    of_new: bool,
+    told: bool,
+    start: Dsp,
+) -> Back {
+    let mut log = [0u8; 65536];
+    let found = stored_log(file, &mut log);
     if found.failed {
         return Back {
             stops: true,
@@ -119,7 +145,7 @@ fn run_next(fd: i32, ram: u8, of_new: bool, told: bool, start: Dsp) -> Back {
         };
     }
     let n = found.size;
-    let back = run_log(ram, of_new, told, start, &log[..n]);
+    let back = run_log(rt, ram, of_new, told, start, &log[..n]);
     Back {
         stops: false,
         size: n,
@@ -127,9 +153,16 @@ fn run_next(fd: i32, ram: u8, of_new: bool, told: bool, start: Dsp) -> Back {
     }
 }
 
-fn run_log(number: u8, of_new: bool, told: bool, start: Dsp, log: &[u8]) -> Dsp {
+fn run_log(
+    rt: &(impl Files + Print),
+    number: u8,
+    of_new: bool,
+    told: bool,
+    start: Dsp,
+    log: &[u8],
+) -> Dsp {
     let mut ram = [0u8; 65537];
-    let n = image(number, &mut ram);
-    let w = run_whole(of_new, told, start, log, &mut ram[..n]);
+    let n = image(rt, number, &mut ram);
+    let w = run_whole(rt, of_new, told, start, log, &mut ram[..n]);
     w.dsp
 }

@@ -6,13 +6,13 @@ mod cases;
 mod redone;
 
 use report::lines;
+use std::fs;
 
-fn main() {
-    let fd = os::open_read(b"cases");
-    if fd < 0 {
-        lines::say(b"cases cannot be read\n");
-    } else {
-        cases::all(fd);
-        libc::close(fd);
+fn main(rt: HostRuntime) {
+    match fs::open(&rt, "cases") {
+        Ok(mut found) => cases::all(&rt, &mut found),
+        Err(_) => {
+            lines::say(&rt, b"cases cannot be read\n");
+        }
     }
 }

@@ -9,6 +9,7 @@ use report::lines;
 use report::runs::{Room, room_for, run_cut, tell};
 use rework::{Reworked, rework, rework_new};
 use sitting::Ran;
+use std::rt::Files;
 
 // The number of the RAM image, the mask of the named voices; which slice is lent a byte short or a byte long; which records are
 // unfit: bit 0 the new start record, bit 1 the old end record.
@@ -37,11 +38,20 @@ pub fn spoiled(dsp: Dsp, unfit: bool) -> Dsp {
 
 // The record that the rework gives back. The first run has a RAM of its own. `of_new`: both sittings start from `new`, so that
 // `rework_new` has to give the same.
-pub fn redo(asked: Asked, of_new: bool, from: Dsp, start: Dsp, old: &[u8], new: &[u8]) -> Dsp {
+pub fn redo(
+    rt: &(impl Files + Print),
+    asked: Asked,
+    of_new: bool,
+    from: Dsp,
+    start: Dsp,
+    old: &[u8],
+    new: &[u8],
+) -> Dsp {
     let mut ram = [0u8; 65537];
-    let n = image(asked.ram, &mut ram);
+    let n = image(rt, asked.ram, &mut ram);
     let mut own = ram;
     redo_room(
+        rt,
         asked,
         of_new,
         from,
@@ -55,6 +65,7 @@ pub fn redo(asked: Asked, of_new: bool, from: Dsp, start: Dsp, old: &[u8], new: 
 
 // Room for any log, and a byte more.
 fn redo_room(
+    out: &impl Print,
     asked: Asked,
     of_new: bool,
     from: Dsp,
@@ -68,6 +79,7 @@ fn redo_room(
     let mut sheet = [0; 1152001];
     let mut readings = [0; 20001];
     redo_in(
+        out,
         asked,
         of_new,
         from,
@@ -84,6 +96,7 @@ fn redo_room(
 
 // Behind a reference an array's length is its type's, and no check has to count a million bytes.
 fn redo_in(
+    out: &impl Print,
     asked: Asked,
     of_new: bool,
     from: Dsp,
@@ -97,11 +110,12 @@ fn redo_in(
     readings: &mut [u8; 20001],
 ) -> Dsp {
     redo_on(
-        asked, of_new, from, start, ram, own, old, new, pcm, sheet, readings,
+        out, asked, of_new, from, start, ram, own, old, new, pcm, sheet, readings,
     )
 }
 
 fn redo_on(
+    out: &impl Print,
     asked: Asked,
     of_new: bool,
     from: Dsp,
@@ -117,7 +131,7 @@ fn redo_on(
     let r = run_cut(false, from, own, old, pcm, sheet, readings);
     let end = r.dsp;
     reworked(
-        asked, of_new, start, end, ram, old, new, pcm, sheet, readings,
+        out, asked, of_new, start, end, ram, old, new, pcm, sheet, readings,
     )
 }
 
@@ -136,6 +150,7 @@ fn resized(n: usize, lent: u8, short: u8) -> usize
 
 // What the new log needs, but for a byte of one slice, and the record that comes back.
 fn reworked(
+    out: &impl Print,
     asked: Asked,
     of_new: bool,
     start: Dsp,
@@ -156,6 +171,7 @@ fn reworked(
     };
     let n = lent.within(pcm.len(), sheet.len(), readings.len());
     rework_on(
+        out,
         asked.named,
         of_new,
         start,
@@ -174,6 +190,7 @@ fn held(pcm: &[u8], sheet: &[u8], readings: &[u8]) -> u64 {
 }
 
 fn rework_on(
+    out: &impl Print,
     named: u8,
     of_new: bool,
     start: Dsp,
@@ -188,21 +205,25 @@ fn rework_on(
     let before = held(pcm, sheet, readings);
     let w = rework(named, start, end, ram, old, new, pcm, sheet, readings);
     if w.refusal == 0 {
-        tell_reworked(w, ram, new, pcm, sheet, readings);
+        tell_reworked(out, w, ram, new, pcm, sheet, readings);
     } else {
-        lines::refused(w.refusal);
-        differs((w.members != 0) | (w.count != 0) | (before != held(pcm, sheet, readings)));
+        lines::refused(out, w.refusal);
+        differs(
+            out,
+            (w.members != 0) | (w.count != 0) | (before != held(pcm, sheet, readings)),
+        );
     }
-    of_new_too(of_new, w, named, ram, old, new, pcm, sheet, readings)
+    of_new_too(out, of_new, w, named, ram, old, new, pcm, sheet, readings)
 }
 
-fn differs(so: bool) {
+fn differs(out: &impl Print, so: bool) {
     if so {
-        lines::say(b"DIFFERS\n");
+        lines::say(out, b"DIFFERS\n");
     }
 }
 
 fn of_new_too(
+    out: &impl Print,
     of_new: bool,
     w: Reworked,
     named: u8,
@@ -217,7 +238,7 @@ fn of_new_too(
     if of_new {
         let after = held(pcm, sheet, readings);
         let v = rework_new(named, ram, old, new, pcm, sheet, readings);
-        differs(!same(w, v) | (after != held(pcm, sheet, readings)));
+        differs(out, !same(w, v) | (after != held(pcm, sheet, readings)));
     }
     d
 }
@@ -231,10 +252,18 @@ fn same(w: Reworked, v: Reworked) -> bool {
         & (with_registers(EMPTY, d) == with_registers(EMPTY, e))
 }
 
-fn tell_reworked(w: Reworked, ram: &[u8], new: &[u8], pcm: &[u8], sheet: &[u8], readings: &[u8]) {
-    lines::say(b"VOICES ");
-    lines::hex(w.members);
-    lines::numbered(b" ", w.count as u64);
+fn tell_reworked(
+    out: &impl Print,
+    w: Reworked,
+    ram: &[u8],
+    new: &[u8],
+    pcm: &[u8],
+    sheet: &[u8],
+    readings: &[u8],
+) {
+    lines::say(out, b"VOICES ");
+    lines::hex(out, w.members);
+    lines::numbered(out, b" ", w.count as u64);
     let m = measure(new);
     let d = w.dsp;
     let r = Ran {
@@ -243,5 +272,5 @@ fn tell_reworked(w: Reworked, ram: &[u8], new: &[u8], pcm: &[u8], sheet: &[u8], 
         ticks: m.ticks,
         readings: m.readings,
     };
-    tell(r, new, ram, pcm, sheet, readings);
+    tell(out, r, new, ram, pcm, sheet, readings);
 }

@@ -2,8 +2,10 @@
 // in the file (16 bits) and how many are made behind them (32 bits); the seed of those; then the bytes that stand there.
 use crate::filed::{read, written};
 use chip_log::word;
+use report::input::read_full;
 use report::lines::{numbered, say};
 use report::runs::within;
+use std::io::Read;
 
 // A file may have no end, as a device has none: no more cases than these are read.
 const CASES_MOST: u64 = 1000;
@@ -38,9 +40,9 @@ impl Asked {
     }
 }
 
-pub fn all(fd: i32) {
+pub fn all<R: Read>(out: &impl Print, file: &mut R) {
     for number in 0..CASES_MOST {
-        if !next(fd, number + 1) {
+        if !next(out, file, number + 1) {
             return;
         }
     }
@@ -50,24 +52,25 @@ fn wide(a: u8, b: u8, c: u8, d: u8) -> u32 {
     word(a, b) as u32 + 0x10000 * (word(c, d) as u32)
 }
 
-fn stops() -> bool {
-    say(b"cases stops inside a case\n");
+fn stops(out: &impl Print) -> bool {
+    say(out, b"cases stops inside a case\n");
     false
 }
 
 // Whether there was a case.
-fn next(fd: i32, number: u64) -> bool {
+fn next<R: Read>(out: &impl Print, file: &mut R, number: u64) -> bool {
     let mut head = [0u8; 12];
-    let got = io::read_full(fd, &mut head);
+    let got = read_full(file, &mut head);
     if got == 0 {
         return false;
     }
     if got < HEAD {
-        return stops();
+        return stops(out);
     }
-    numbered(b"CASE ", number);
+    numbered(out, b"CASE ", number);
     with_room(
-        fd,
+        out,
+        file,
         Asked {
             way: head[0],
             lent: wide(head[1], head[2], head[3], head[4]),
@@ -79,44 +82,59 @@ fn next(fd: i32, number: u64) -> bool {
 }
 
 // What is lent is filled with other bytes than a file has, so that it shows what was written.
-fn with_room(fd: i32, asked: Asked) -> bool {
+fn with_room<R: Read>(out: &impl Print, file: &mut R, asked: Asked) -> bool {
     let mut source = [0; 128064];
     let mut to = [0xA5; 128064];
     let mut back = [0; 128064];
-    in_room(fd, asked, &mut source, &mut to, &mut back)
+    in_room(out, file, asked, &mut source, &mut to, &mut back)
 }
 
 // Behind a reference an array's length is its type's, and no check has to count its bytes.
-fn in_room(
-    fd: i32,
+fn in_room<R: Read>(
+    out: &impl Print,
+    file: &mut R,
     asked: Asked,
     source: &mut [u8; 128064],
     to: &mut [u8; 128064],
     back: &mut [u8; 128064],
 ) -> bool {
-    one(fd, asked, source, to, back)
+    one(out, file, asked, source, to, back)
 }
 
-fn one(fd: i32, asked: Asked, source: &mut [u8], to: &mut [u8], back: &mut [u8]) -> bool {
+fn one<R: Read>(
+    out: &impl Print,
+    file: &mut R,
+    asked: Asked,
+    source: &mut [u8],
+    to: &mut [u8],
+    back: &mut [u8],
+) -> bool {
     if !asked.fits() {
-        return stops();
+        return stops(out);
     }
     let end = within(asked.size(), source);
     let lent = within(asked.lent as usize, to);
-    filled(fd, asked, &mut source[..end], &mut to[..lent], back)
+    filled(out, file, asked, &mut source[..end], &mut to[..lent], back)
 }
 
-fn filled(fd: i32, asked: Asked, source: &mut [u8], to: &mut [u8], back: &mut [u8]) -> bool {
+fn filled<R: Read>(
+    out: &impl Print,
+    file: &mut R,
+    asked: Asked,
+    source: &mut [u8],
+    to: &mut [u8],
+    back: &mut [u8],
+) -> bool {
     let front = within(asked.front as usize, source);
-    if io::read_full(fd, &mut source[..front]) < front {
-        return stops();
+    if read_full(file, &mut source[..front]) < front {
+        return stops(out);
     }
     make(asked.seed, &mut source[front..]);
     let way = asked.way;
     match way {
-        WRITE => written(source, to, back),
-        READ => read(source, to, back),
-        _ => stops(),
+        WRITE => written(out, source, to, back),
+        READ => read(out, source, to, back),
+        _ => stops(out),
     }
 }
 

@@ -4,53 +4,53 @@ use report::lines::{digest, number, numbered, refused, say};
 use report::runs::within;
 use wav::{read_wav, wav_frames, write_wav};
 
-pub fn written(pcm: &[u8], file: &mut [u8], back: &mut [u8]) -> bool {
+pub fn written(out: &impl Print, pcm: &[u8], file: &mut [u8], back: &mut [u8]) -> bool {
     let refusal = write_wav(pcm, file);
     if refusal == 0 {
-        numbered(b"WROTE ", (pcm.len() / 4) as u64);
+        numbered(out, b"WROTE ", (pcm.len() / 4) as u64);
     } else {
-        refused(refusal);
+        refused(out, refusal);
     }
-    digest(b"FILE ", with_bytes(EMPTY, file));
+    digest(out, b"FILE ", with_bytes(EMPTY, file));
     if refusal == 0 {
         let n = within(pcm.len(), back);
-        read_back(pcm, file, &mut back[..n]);
+        read_back(out, pcm, file, &mut back[..n]);
     }
     true
 }
 
-pub fn read(file: &[u8], pcm: &mut [u8], back: &mut [u8]) -> bool {
+pub fn read(out: &impl Print, file: &[u8], pcm: &mut [u8], back: &mut [u8]) -> bool {
     let got = read_wav(file, pcm);
     if got.refusal == 0 {
-        numbered(b"READ ", got.frames as u64);
+        numbered(out, b"READ ", got.frames as u64);
     } else {
-        refused(got.refusal);
+        refused(out, got.refusal);
     }
     let found = wav_frames(file);
-    say(b"FRAMES ");
-    number(found.refusal as u64);
-    numbered(b" ", found.frames as u64);
-    digest(b"PCM ", with_bytes(EMPTY, pcm));
+    say(out, b"FRAMES ");
+    number(out, found.refusal as u64);
+    numbered(out, b" ", found.frames as u64);
+    digest(out, b"PCM ", with_bytes(EMPTY, pcm));
     if got.refusal == 0 {
         let n = within(file.len(), back);
-        write_back(file, pcm, &mut back[..n]);
+        write_back(out, file, pcm, &mut back[..n]);
     }
     true
 }
 
 // What was written is read, or what was read is written: it must be the same.
-fn read_back(pcm: &[u8], file: &[u8], back: &mut [u8]) {
+fn read_back(out: &impl Print, pcm: &[u8], file: &[u8], back: &mut [u8]) {
     let got = read_wav(file, back);
-    compared(got.refusal, pcm, back);
+    compared(out, got.refusal, pcm, back);
 }
 
-fn write_back(file: &[u8], pcm: &[u8], back: &mut [u8]) {
+fn write_back(out: &impl Print, file: &[u8], pcm: &[u8], back: &mut [u8]) {
     let refusal = write_wav(pcm, back);
-    compared(refusal, file, back);
+    compared(out, refusal, file, back);
 }
 
-fn compared(refusal: u8, bytes: &[u8], back: &[u8]) {
-    if (refusal != 0) | !check::same(bytes, back) {
-        say(b"DIFFERS\n");
+fn compared(out: &impl Print, refusal: u8, bytes: &[u8], back: &[u8]) {
+    if (refusal != 0) | (bytes != back) {
+        say(out, b"DIFFERS\n");
     }
 }

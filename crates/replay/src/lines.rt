@@ -1,35 +1,35 @@
 // One line for a file of records: its name, and what replaying it came to.
 use crate::leaves::Leaf;
 use crate::parts::{Outcome, replay};
-use libc::STDOUT_FILENO;
+use report::input::opened;
+use report::lines;
+use report::lines::say;
+use std::rt::Files;
 
-fn replay_file(leaf: Leaf, name: &[u8]) -> Outcome {
-    let fd = os::open_read(name);
-    if fd < 0 {
-        return Outcome::Unread;
+fn replay_file(rt: &impl Files, leaf: Leaf, name: &[u8]) -> Outcome {
+    match opened(rt, name) {
+        Some(mut found) => replay(&mut found, leaf),
+        None => Outcome::Unread,
     }
-    let outcome = replay(fd, leaf);
-    libc::close(fd);
-    outcome
 }
 
-fn told(number: u64, words: &[u8]) {
-    io::print_decimal(STDOUT_FILENO, number);
-    io::write_all(STDOUT_FILENO, words);
+fn told(out: &impl Print, number: u64, words: &[u8]) {
+    lines::number(out, number);
+    say(out, words);
 }
 
-pub fn line(leaf: Leaf, name: &[u8]) {
-    io::write_all(STDOUT_FILENO, name);
-    io::write_all(STDOUT_FILENO, b" ");
-    match replay_file(leaf, name) {
+pub fn line(rt: &(impl Files + Print), leaf: Leaf, name: &[u8]) {
+    say(rt, name);
+    say(rt, b" ");
+    match replay_file(rt, leaf, name) {
         Outcome::Equal(number) => {
-            told(number, b" equal\n");
+            told(rt, number, b" equal\n");
         }
         Outcome::Differs(number) => {
-            told(number, b" differs\n");
+            told(rt, number, b" differs\n");
         }
         Outcome::Unread => {
-            io::write_all(STDOUT_FILENO, b"cannot be read\n");
+            say(rt, b"cannot be read\n");
         }
     }
 }

@@ -15,10 +15,10 @@ mod records;
 use leaves::Leaf;
 use lines::line;
 
-fn main() {
-    line(Leaf::Nibble, b"nibble");
-    line(Leaf::Block, b"block");
-    line(Leaf::Interpolation, b"interpolate");
-    line(Leaf::Envelope, b"envelope");
-    line(Leaf::Noise, b"noise");
+fn main(rt: HostRuntime) {
+    line(&rt, Leaf::Nibble, b"nibble");
+    line(&rt, Leaf::Block, b"block");
+    line(&rt, Leaf::Interpolation, b"interpolate");
+    line(&rt, Leaf::Envelope, b"envelope");
+    line(&rt, Leaf::Noise, b"noise");
 }

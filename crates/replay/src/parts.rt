@@ -5,11 +5,13 @@ ghost use Rattle.replay.specs.Parts.{IsFront};
 
 use crate::leaves::{Leaf, check, size, start};
 use crate::records::Carry;
+use report::input::{fill, read_full};
+use std::io::Read;
 
 // A file may have no end, as a device has none: no more parts than these are read.
 const PARTS_MOST: usize = 1000;
 
-// What io::large_buffer holds.
+// What the buffer of a part holds.
 const PART_MOST: usize = 0x10000;
 
 // What replaying a file came to: so many records, all equal; the number, from 1, of the first that differs; or a
@@ -67,37 +69,38 @@ fn part_size(leaf: Leaf) -> usize
     PART_MOST / n * n
 }
 
-fn read_part(fd: i32, leaf: Leaf, carry: Carry) -> Part
+fn read_part<R: Read>(file: &mut R, leaf: Leaf, carry: Carry) -> Part
     ensures { (result.bytes ≤ 0x10000) × (result.front.equal ≤ result.bytes) }
 {
-    let mut buffer = io::large_buffer();
+    let mut buffer = [0u8; 65536];
     let most = part_size(leaf);
-    let bytes = io::read_full(fd, &mut buffer[..most]);
+    let bytes = read_full(file, &mut buffer[..most]);
     let front = front_of(leaf, &buffer[..bytes], carry);
     Part { bytes, front }
 }
 
 // A part that is not full is the last one, unless a read failed, and then the next one does not say "end" either.
-fn ended(fd: i32) -> bool {
+fn ended<R: Read>(file: &mut R) -> bool {
     let mut more = [0u8; 1];
-    libc::read(fd, &mut more) == 0
+    let took = fill(file, &mut more);
+    !took.failed && took.size == 0
 }
 
-pub fn replay(fd: i32, leaf: Leaf) -> Outcome {
+pub fn replay<R: Read>(file: &mut R, leaf: Leaf) -> Outcome {
     let n = size(leaf);
     let most = part_size(leaf);
     let mut equal: u64 = 0;
     let mut carry = start();
     let mut parts: usize = 0;
     while parts < PARTS_MOST {
-        let p = read_part(fd, leaf, carry);
+        let p = read_part(file, leaf, carry);
         let f = p.front;
         equal += f.equal as u64;
         if f.equal < p.bytes / n {
             return Outcome::Differs(equal + 1);
         }
         if p.bytes < most {
-            if p.bytes % n == 0 && ended(fd) {
+            if p.bytes % n == 0 && ended(file) {
                 return Outcome::Equal(equal);
             }
             return Outcome::Unread;

@@ -107,12 +107,12 @@ fn run_records(log: &[u8], ram: &mut [u8]) -> Run {
 }
 
 // `whole`: what the same log left when it was run whole, on the same image.
-pub fn run_ticks(log: &[u8], ram: &mut [u8], whole: Left) {
+pub fn run_ticks(out: &impl Print, log: &[u8], ram: &mut [u8], whole: Left) {
     let r = run_records(log, ram);
     let d = r.dsp;
     let left = Left::by(d, ram, r.pcm, r.readings);
-    lines::digest(b"TRACE ", r.trace);
+    lines::digest(out, b"TRACE ", r.trace);
     if (r.refusal != 0) | !left.same(whole) {
-        lines::say(b"DIFFERS\n");
+        lines::say(out, b"DIFFERS\n");
     }
 }

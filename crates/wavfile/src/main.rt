@@ -6,31 +6,55 @@
 
 mod filing;
 
-use report::lines::complain;
+ghost use Rattle.std.specs.Counts.{IsPrefixLen};
 
-fn main() {
-    let mut way = io::buffer();
-    let mut from = io::buffer();
-    let mut to = io::buffer();
-    let w = os::arg(1, &mut way);
-    let f = os::arg(2, &mut from);
-    let t = os::arg(3, &mut to);
-    asked(&way[..w], &from[..f], &to[..t]);
+use report::lines::complain;
+use std::env::{Env, FillError};
+
+fn main(rt: HostRuntime) {
+    let mut way = [0u8; 4096];
+    let mut from = [0u8; 4096];
+    let mut to = [0u8; 4096];
+    let w = word(&rt, 1, &mut way);
+    let f = word(&rt, 2, &mut from);
+    let t = word(&rt, 3, &mut to);
+    asked(&rt, &way[..w], &from[..f], &to[..t]);
 }
 
 // A word that is missing or too long for a path has no bytes here.
-fn asked(way: &[u8], from: &[u8], to: &[u8]) {
-    if (from.len() == 0) | (to.len() == 0) | (os::arg_count() != 4) {
-        usage();
-    } else if check::same(way, b"write") {
-        filing::write(from, to);
-    } else if check::same(way, b"read") {
-        filing::read(from, to);
-    } else {
-        usage();
+fn word(rt: &impl Env, i: usize, buf: &mut [u8]) -> usize
+    ensures { IsPrefixLen result buf.new }
+{
+    match rt.arg(i, buf) {
+        Ok(n) => n,
+        Err(_) => 0,
     }
 }
 
-fn usage() {
-    complain(b"usage: wavfile write PCM WAV | wavfile read WAV PCM\n");
+// Whether there is a word past the third.
+fn goes_on(rt: &impl Env) -> bool {
+    let mut more = [0u8; 1];
+    match rt.arg(4, &mut more) {
+        Err(FillError::NotPresent) => false,
+        _ => true,
+    }
+}
+
+fn asked(rt: &HostRuntime, way: &[u8], from: &[u8], to: &[u8]) {
+    if (from.len() == 0) | (to.len() == 0) | goes_on(rt) {
+        usage(rt);
+    } else if way == b"write" {
+        filing::write(rt, from, to);
+    } else if way == b"read" {
+        filing::read(rt, from, to);
+    } else {
+        usage(rt);
+    }
+}
+
+fn usage(rt: &HostRuntime) {
+    complain(
+        &rt.stderr(),
+        b"usage: wavfile write PCM WAV | wavfile read WAV PCM\n",
+    );
 }
