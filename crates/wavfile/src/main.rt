@@ -43,9 +43,9 @@ fn goes_on(rt: &impl Env) -> bool {
 fn asked(rt: &HostRuntime, way: &[u8], from: &[u8], to: &[u8]) {
     if (from.len() == 0) | (to.len() == 0) | goes_on(rt) {
         usage(rt);
-    } else if way == b"write" {
+    } else if way == b"write".as_slice() {
         filing::write(rt, from, to);
-    } else if way == b"read" {
+    } else if way == b"read".as_slice() {
         filing::read(rt, from, to);
     } else {
         usage(rt);
