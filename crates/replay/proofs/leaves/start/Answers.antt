@@ -1,0 +1,6 @@
+-- The two numbers of the power-on record.
+use borrow.Author.Rules.{rules}
+use Rattle.replay.proofs.leaves.start.Goals as goal
+
+pub returns : goal.returns
+returns c = cc

@@ -1,0 +1,40 @@
+-- The records passed are equal, and what they handed on is what the next is handed. The measure is the records that are left.
+use borrow.Author.Rules.{rules}
+use borrow.Author.Tests.{not-true, not-false}
+use mathlib.Core.Path.{◌∙◌}
+use Prim.Native.Nat.{◌-◌, ◌≤◌}
+use native.Mathlib.Nat.{div-le_self}
+use native.Mathlib.Omega.{arith}
+use lib.ListN.{length}
+use Rattle.dsp.specs.Noise.{Noise}
+use Rattle.replay.specs.declared.records.Carry.{Carry}
+use Rattle.replay.proofs.Fronts.{UpTo, added, room, none, one_more, stops, ends}
+use Rattle.replay.proofs.parts.front_of.Goals as goal
+
+pub loop-equal-init : goal.loop-equal-init
+loop-equal-init c = (search rules, none _ _ _)
+
+pub overflow_mul-at : goal.overflow_mul-at
+overflow_mul-at c = record { fits = omega (arith, room _ _ _ c.loop-equal-test.true) }
+
+pub overflow_add-at : goal.overflow_add-at
+overflow_add-at c = record { fits = omega (arith, room _ _ _ c.loop-equal-test.true) }
+
+pub slice_bounds-check-end : goal.slice_bounds-check-end
+slice_bounds-check-end c = room _ _ _ c.loop-equal-test.true
+
+pub check-c-requires : goal.check-c-requires
+check-c-requires c = c.check-arg-1.given.2 ∙ added _ _ ∙ c.size-n.ensures.0
+
+pub returns-then-not-c : goal.returns-then-not-c
+returns-then-not-c c = stops _ _ _ _ _ _ _ c.size-n.ensures.0 c.loop-equal.invariant.1 c.check-c.ensures c.loop-equal-test.true c.if-not-c.true
+
+pub overflow_add-equal : goal.overflow_add-equal
+overflow_add-equal c = let part = c.args.part.now in
+    record { fits = omega (arith, div-le_self (length part) c.size-n.result) }
+
+pub loop-equal-preserved : goal.loop-equal-preserved
+loop-equal-preserved c = (search rules, one_more _ _ _ _ _ _ _ c.size-n.ensures.0 c.loop-equal.invariant.1 c.check-c.ensures c.if-not-c.false)
+
+pub returns : goal.returns
+returns c = ends _ _ _ _ _ _ c.size-n.ensures.0 c.loop-equal.invariant.1 c.loop-equal.invariant.0 c.loop-equal-test.false

@@ -1,0 +1,22 @@
+-- The records passed are equal, and what they handed on is what the next is handed. The measure is the records that are left.
+use borrow.Author.Rules.{rules}
+use borrow.Author.Tests.{not-true, not-false}
+use mathlib.Core.Path.{◌∙◌}
+use Prim.Native.Nat.{◌-◌, ◌≤◌}
+use native.Mathlib.Nat.{div-le_self}
+use native.Mathlib.Omega.{arith}
+use lib.ListN.{length}
+use Rattle.dsp.specs.Noise.{Noise}
+use Rattle.replay.specs.declared.records.Carry.{Carry}
+use Rattle.replay.proofs.Fronts.{UpTo, added, room, none, one_more, stops, ends}
+use Rattle.replay.proofs.parts.front_of.Given as goal
+
+-- the noise that is handed on
+abbrev pub noise_in : Carry → Noise
+noise_in c = record { lfsr = c.lfsr; counter = c.counter }
+
+abbrev pub invariant-loop-equal : goal.invariant-loop-equal
+invariant-loop-equal l = (l.equal ≤ l.count) × UpTo l.leaf l.part (noise_in l.initial.handed) l.equal (noise_in l.handed)
+
+abbrev pub decreases-loop-equal : goal.decreases-loop-equal
+decreases-loop-equal l = l.count - l.equal
