@@ -1,24 +1,21 @@
 -- The registers that a log reads, listed from its front on.
-use Rattle.std.proofs.Common.{◌≡◌, ℕ, ◌+◌, ◌<◌, ◌≤◌, List, [], ◌∷◌, length, set, sym, refl, ap, ◌∙◌, ⊎_elim, arith}
-use types.Run.{OneOf}
-use denote.Enum.Declared.{tag_of}
+use Rattle.std.proofs.Common.{◌≡◌, ℕ, ◌+◌, ◌<◌, ◌≤◌, List, ◌∷◌, length, set, sym, refl, ap, ◌∙◌, arith}
 use Rattle.chip_log.specs.Log.{read_at, Moves, decode, records_from}
 use Rattle.chip_log.specs.declared.Record.{Record}
 use Rattle.chip_log.specs.declared.Record.TheVariants.{Write, Ticks, Reading}
 use Rattle.chip_log.specs.declared.Next.{Next}
 use Rattle.chip_log.specs.declared.Next.TheVariants.{On, Off}
-use Rattle.chip_log.specs.contracts.Record.{the_type}
 use Rattle.chip_log.proofs.Turn.{moved}
 use Rattle.chip_log.proofs.Places.{opened_at, closed_at}
 use Rattle.report.specs.Runs.{registers_of, registers_in}
 use Rattle.report.proofs.Filling.{Filling, unfilled, Filled, ended as filled, one_put, renamed}
 
 -- a record that is no reading
-pub others : (x : Record) → OneOf (0 ∷ 1 ∷ []) (tag_of the_type x) → (rs : List Record) → registers_of (x ∷ rs) ≡ registers_of rs
+pub others : (x : Record) → ((r : ℕ) → x ≡ Reading r → ⊥) → (rs : List Record) → registers_of (x ∷ rs) ≡ registers_of rs
 unfolding registers_of
 others (Write r v) k rs = refl
 others (Ticks n) k rs = refl
-others (Reading r) k rs = ⊎_elim (λ e. absurd (omega arith)) (λ e. absurd (omega arith)) k
+others (Reading r) k rs = absurd (k r refl)
 
 -- the place is reached with so many listed, and what is left of the log gives the others
 pub record Listed (log old new : List ℕ) (put at : ℕ) : Type 0 where

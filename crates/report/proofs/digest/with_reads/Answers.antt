@@ -1,5 +1,4 @@
 -- One byte, then the other.
-use Rattle.std.proofs.Common.{rules}
 use Rattle.report.specs.Digest.{fnv_all}
 use Rattle.report.proofs.digest.with_reads.Goals as goal
 

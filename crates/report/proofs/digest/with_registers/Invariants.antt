@@ -1,7 +1,6 @@
 -- The digest so far is that of the registers that were passed. The measure is the registers that are left.
-use Rattle.std.proofs.Common.{◌≡◌, ℕ, ◌-◌, ◌%◌, ◌≤◌, length, get_or, take, refl, ap, ◌∙◌, arith, take_all, rules}
+use Rattle.std.proofs.Common.{◌≡◌, ◌-◌, ◌≤◌, length, take}
 use Rattle.report.specs.Digest.{fnv_all}
-use Rattle.report.proofs.Digests.{one_more}
 use Rattle.report.proofs.digest.with_registers.Given as goal
 
 abbrev pub invariant-loop-register : goal.invariant-loop-register

@@ -1,7 +1,6 @@
 -- The digits that are left, with those that are written behind them, are the number. The measure is the digits that are left.
-use Rattle.std.proofs.Common.{◌≡◌, ℕ, ◌+◌, ◌-◌, ◌≤◌, ◌++◌, length, drop, replicate, sym, refl, ap, ◌∙◌, arith, length-set, rules}
+use Rattle.std.proofs.Common.{◌≡◌, ◌≤◌, ◌++◌, length, drop}
 use Rattle.report.specs.Hex.{in_hex}
-use Rattle.report.proofs.Digits.{unwritten, digit_before}
 use Rattle.report.proofs.lines.digits_of.Given as goal
 
 abbrev pub invariant-loop-i : goal.invariant-loop-i

@@ -1,5 +1,5 @@
 -- A byte has two digits.
-use Rattle.std.proofs.Common.{◌≡◌, ℕ, ◌/◌, ◌%◌, [], ◌∷◌, ap, arith, rules}
+use Rattle.std.proofs.Common.{◌≡◌, ℕ, ◌/◌, ◌%◌, [], ◌∷◌, ap, arith}
 use Rattle.report.specs.Hex.{capital, in_hex}
 use Rattle.report.proofs.lines.hex_of.Goals as goal
 
