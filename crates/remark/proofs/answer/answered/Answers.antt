@@ -1,0 +1,7 @@
+-- The one, then the other.
+use borrow.Author.Rules.{rules}
+use Rattle.remark.proofs.Answers.{answer-is}
+use Rattle.remark.proofs.answer.answered.Goals as goal
+
+pub returns : goal.returns
+returns c = answer-is _ _ _ _ _ _ _ _ _ _ _ c.work-w.ensures c.judge-j.ensures

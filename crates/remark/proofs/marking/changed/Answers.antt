@@ -1,0 +1,57 @@
+-- What is left from here gives the numbers that are still to be listed. The measure is the readings that are left.
+use borrow.Author.Rules.{rules}
+use mathlib.Core.Logic.{⊎_elim}
+use Prim.Native.Nat.{◌+◌, ◌-◌, ◌≤◌, ◌<◌}
+use native.Mathlib.Omega.{arith}
+use lib.ListN.{length, drop}
+use borrow.Author.Tests.{not-true, not-false}
+use Rattle.report.proofs.Filling.{Filling, unfilled, long, full, ended, one_put, renamed, seen_as}
+use Rattle.remark.specs.Marking.{changed_from, changed, greatest}
+use Rattle.remark.proofs.Marks.{changed-end, changed_here, kept_here, greatest-both}
+use Rattle.remark.proofs.marking.changed.Goals as goal
+
+pub loop-i-init : goal.loop-i-init
+loop-i-init c = (search rules, unfilled _ _)
+
+pub shape_of-to-then-put-to : goal.shape_of-to-then-put-to
+shape_of-to-then-put-to c = long c.loop-i.invariant.1
+
+pub returns-then-put-to : goal.returns-then-put-to
+returns-then-put-to c = let f = c.loop-i.invariant.1 in let r = full f (omega (arith, long f, c.if-put-to.true)) in (r.0, r.1)
+
+pub bounds-to-put : goal.bounds-to-put
+bounds-to-put c =
+    let room : c.loop-i.put < length c.loop-i.to = (let f = c.loop-i.invariant.1 in omega (arith, long f, f.room, c.if-put-to.false)) in
+    room
+
+pub overflow_add-put : goal.overflow_add-put
+overflow_add-put c =
+    let room : c.loop-i.put < length c.loop-i.to = (let f = c.loop-i.invariant.1 in omega (arith, long f, f.room, c.if-put-to.false)) in
+    let o = room in search rules
+
+pub loop-i-preserved : goal.loop-i-preserved
+loop-i-preserved c =
+    let room : c.loop-i.put < length c.loop-i.to = (let f = c.loop-i.invariant.1 in omega (arith, long f, f.room, c.if-put-to.false)) in
+    let l = c.loop-i in
+    let f = l.invariant.1 in
+    let h = c.loop-i-test.true in
+    let g : l.i < greatest (length c.args.before.now) (length c.args.after.now) = omega (arith, h, c.greatest-n.ensures) in
+    let e = c.same_at.ensures in
+    let o = room in (
+      omega (arith, h),
+      ⊎_elim
+          (λ w. seen_as (one_put f (l.i + 1) (changed_here _ _ l.i e (l.i + 1) g (not-true _ w.0.true)) (omega (arith, o, long f))) w.1 w.2)
+          (λ w. seen_as (renamed f (kept_here _ _ l.i e (l.i + 1) g (not-false _ w.0.left))) w.1 w.2)
+          c.if-not-same_at.branch,
+    )
+
+pub shape_of-to : goal.shape_of-to
+shape_of-to c = long c.loop-i.invariant.1
+
+pub returns : goal.returns
+returns c = let l = c.loop-i in
+    let t = c.loop-i-test.false in
+    let g = greatest-both (length c.args.before.now) (length c.args.after.now) in
+    let n = c.greatest-n.ensures in
+    let r = ended l.invariant.1 (changed-end _ _ l.i (l.i + 1) (omega (arith, t, n, g.0)) (omega (arith, t, n, g.1))) in
+    (r.0, r.1)
