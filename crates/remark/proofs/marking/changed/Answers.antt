@@ -1,14 +1,13 @@
 -- What is left from here gives the numbers that are still to be listed. The measure is the readings that are left.
 use borrow.Author.Rules.{rules}
-use mathlib.Core.Logic.{⊎_elim}
 use Prim.Native.Nat.{◌+◌, ◌-◌, ◌≤◌, ◌<◌}
 use native.Mathlib.Omega.{arith}
 use lib.ListN.{length, drop}
-use borrow.Author.Tests.{not-true, not-false}
 use Rattle.report.proofs.Filling.{Filling, unfilled, long, full, ended, one_put, renamed, seen_as}
 use Rattle.remark.specs.Marking.{changed_from, changed, greatest}
 use Rattle.remark.proofs.Marks.{changed-end, changed_here, kept_here, greatest-both}
 use Rattle.remark.proofs.marking.changed.Goals as goal
+use Rattle.remark.proofs.marking.changed.Goals.{then-not-same_at, else-not-same_at}
 
 pub loop-i-init : goal.loop-i-init
 loop-i-init c = (search rules, unfilled _ _)
@@ -36,13 +35,13 @@ loop-i-preserved c =
     let f = l.invariant.1 in
     let h = c.loop-i-test.true in
     let g : l.i < greatest (length c.args.before.now) (length c.args.after.now) = omega (arith, h, c.greatest-n.ensures) in
-    let e = c.same_at.ensures in
-    let o = room in (
+    let e = c.same_at.ensures in (
       omega (arith, h),
-      ⊎_elim
-          (λ w. seen_as (one_put f (l.i + 1) (changed_here _ _ l.i e (l.i + 1) g (not-true _ w.0.true)) (omega (arith, o, long f))) w.1 w.2)
-          (λ w. seen_as (renamed f (kept_here _ _ l.i e (l.i + 1) g (not-false _ w.0.left))) w.1 w.2)
-          c.if-not-same_at.branch,
+      elim c.if-not-same_at.branch [
+        | then-not-same_at w ↦
+            seen_as (one_put f (l.i + 1) (changed_here _ _ l.i e (l.i + 1) g w.if-not-same_at.true) (omega (arith, room, long f))) w.to-is w.put-is
+        | else-not-same_at w ↦ seen_as (renamed f (kept_here _ _ l.i e (l.i + 1) g w.if-not-same_at.false)) w.to-is w.put-is
+      ],
     )
 
 pub shape_of-to : goal.shape_of-to
