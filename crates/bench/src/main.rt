@@ -1,6 +1,6 @@
 // The program `bench` (document 01): the log on standard input, RAM from ram.bin, the samples to out.pcm, the readings
-// on standard output. What cannot be read or written is named on standard error, and no END line follows: a program of
-// this language has no exit status of its own.
+// on standard output. What cannot be read or written is named on standard error, and no END line follows: that tells how a
+// run ended, and the exit status is 0 always.
 #![tactic(auto)]
 
 mod running;

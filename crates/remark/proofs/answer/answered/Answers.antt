@@ -1,5 +1,4 @@
 -- The one, then the other.
-use borrow.Author.Rules.{rules}
 use Rattle.remark.proofs.Answers.{answer-is}
 use Rattle.remark.proofs.answer.answered.Goals as goal
 

@@ -1,5 +1,4 @@
 -- Both rows are cut to the readings that the new log has.
-use borrow.Author.Rules.{rules}
 use Rattle.remark.proofs.Answers.{judged-is}
 use Rattle.remark.proofs.answer.judge.Goals as goal
 

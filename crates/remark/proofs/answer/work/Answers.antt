@@ -1,5 +1,4 @@
 -- The first run is refused, or reworked.
-use borrow.Author.Rules.{rules}
 use Rattle.remark.proofs.Answers.{first_refused, first_reworked}
 use Rattle.remark.proofs.answer.work.Goals as goal
 

@@ -1,10 +1,10 @@
 -- What is left from here gives the numbers that are still to be listed. The measure is the readings that are left.
 use borrow.Author.Rules.{rules}
-use Prim.Native.Nat.{◌+◌, ◌-◌, ◌≤◌, ◌<◌}
+use Prim.Native.Nat.{◌+◌, ◌<◌}
 use native.Mathlib.Omega.{arith}
-use lib.ListN.{length, drop}
-use Rattle.report.proofs.Filling.{Filling, unfilled, long, full, ended, one_put, renamed, seen_as}
-use Rattle.remark.specs.Marking.{changed_from, changed, greatest}
+use lib.ListN.{length}
+use Rattle.report.proofs.Filling.{unfilled, long, full, ended, one_put, renamed, seen_as}
+use Rattle.remark.specs.Marking.{greatest}
 use Rattle.remark.proofs.Marks.{changed-end, changed_here, kept_here, greatest-both}
 use Rattle.remark.proofs.marking.changed.Goals as goal
 use Rattle.remark.proofs.marking.changed.Goals.{then-not-same_at, else-not-same_at}

@@ -1,13 +1,8 @@
 -- What is left from here gives the numbers that are still to be listed. The measure is the readings that are left.
-use borrow.Author.Rules.{rules}
-use mathlib.Core.Logic.{⊎_elim}
-use Prim.Native.Nat.{◌+◌, ◌-◌, ◌≤◌, ◌<◌}
-use native.Mathlib.Omega.{arith}
-use lib.ListN.{length, drop}
-use borrow.Author.Tests.{not-true, not-false}
-use Rattle.report.proofs.Filling.{Filling, unfilled, long, full, ended, one_put, renamed, seen_as}
-use Rattle.remark.specs.Marking.{changed_from, changed, greatest}
-use Rattle.remark.proofs.Marks.{changed-end, changed_here, kept_here, greatest-both}
+use Prim.Native.Nat.{◌+◌, ◌-◌, ◌≤◌}
+use lib.ListN.{drop}
+use Rattle.report.proofs.Filling.{Filling}
+use Rattle.remark.specs.Marking.{changed_from, changed}
 use Rattle.remark.proofs.marking.changed.Given as goal
 
 abbrev pub invariant-loop-i : goal.invariant-loop-i

@@ -1,10 +1,6 @@
 -- The count so far, with those that are left, gives the whole. The measure is the readings that are left.
 use borrow.Author.Rules.{rules}
-use mathlib.Core.Path.{◌≡◌}
-use Prim.Native.Nat.{◌+◌, ◌-◌, ◌≤◌}
 use native.Mathlib.Omega.{arith}
-use lib.ListN.{drop}
-use Rattle.remark.specs.Marking.{same}
 use Rattle.remark.proofs.Marks.{same_end, same_more}
 use Rattle.remark.proofs.marking.same.Goals as goal
 

@@ -1,5 +1,4 @@
 -- By the tests.
-use borrow.Author.Rules.{rules}
 use borrow.Author.Tests.{le-leb, lt-leb}
 use Rattle.remark.proofs.marking.same_at.Goals as goal
 

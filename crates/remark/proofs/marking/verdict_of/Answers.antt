@@ -1,5 +1,4 @@
 -- Rows of other lengths differ, and so do those with fewer equal readings than there are.
-use borrow.Author.Rules.{rules}
 use mathlib.Core.List.{List}
 use mathlib.Core.Path.{sym, ap, ◌∙◌}
 use lib.ListN.{length}

@@ -1,5 +1,4 @@
 -- By the test.
-use borrow.Author.Rules.{rules}
 use borrow.Author.Tests.{le-leb, lt-leb}
 use Rattle.remark.proofs.telling.is_at.Goals as goal
 

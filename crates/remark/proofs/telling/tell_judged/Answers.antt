@@ -1,5 +1,4 @@
 -- No more than there are.
-use borrow.Author.Rules.{rules}
 use mathlib.Core.Path.{sym}
 use lib.Seq.{length-take-le}
 use Rattle.remark.proofs.telling.tell_judged.Goals as goal

@@ -1,5 +1,4 @@
 -- The voice of the answer is compared with the record.
-use borrow.Author.Rules.{rules}
 use Rattle.replay.specs.Block.{block_equal}
 use Rattle.replay.proofs.block.equal.Goals as goal
 

@@ -1,10 +1,7 @@
 -- After k turns the first k bytes stand in RAM.
-use borrow.Author.Rules.{rules}
 use mathlib.Core.Path.{◌≡◌}
 use Prim.Native.Nat.{◌-◌, ◌≤◌}
-use native.Mathlib.Numerals.{add-one}
-use native.Mathlib.Omega.{arith}
-use lib.ListN.{length, length-set}
+use lib.ListN.{length}
 use Rattle.replay.specs.Block.{laid}
 use Rattle.replay.proofs.block.lay.Given as goal
 

@@ -1,13 +1,6 @@
 -- After k turns the first k samples are compared.
-use borrow.Author.Rules.{rules}
 use mathlib.Core.Path.{◌≡◌}
 use Prim.Native.Nat.{◌-◌, ◌≤◌}
-use native.Mathlib.Numerals.{add-one}
-use native.Mathlib.Omega.{arith}
-use lib.IntN.{pos}
-use lib.ListN.{get_or}
-use mir.Syntax.{w16}
-use Rattle.numbers.proofs.Range.{landed}
 use Rattle.replay.specs.Block.{samples_equal}
 use Rattle.replay.proofs.block.samples_equal.Given as goal
 

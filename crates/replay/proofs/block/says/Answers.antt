@@ -1,5 +1,4 @@
 -- Test by test.
-use borrow.Author.Rules.{rules}
 use mir.Syntax.{w16}
 use Rattle.numbers.proofs.Range.{landed}
 use Rattle.replay.proofs.block.says.Goals as goal

@@ -1,5 +1,4 @@
 -- Number by number.
-use borrow.Author.Rules.{rules}
 use Rattle.replay.proofs.envelope.adsr_of.Goals as goal
 
 pub returns : goal.returns

@@ -1,5 +1,4 @@
 -- The voice is that of the record, and each part of its answer is compared with the record's.
-use borrow.Author.Rules.{rules}
 use mathlib.Core.Bool.{◌&&◌}
 use mathlib.Core.Path.{ap, ◌∙◌}
 use lib.IntN.{pos}

@@ -1,5 +1,4 @@
 -- Test by test.
-use borrow.Author.Rules.{rules}
 use Rattle.replay.proofs.envelope.says.Goals as goal
 
 pub returns : goal.returns

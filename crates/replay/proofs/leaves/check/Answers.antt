@@ -1,5 +1,4 @@
 -- By the leaf, whose equation turns its size and its check into the definition's.
-use borrow.Author.Rules.{rules}
 use Rattle.replay.proofs.leaves.check.Goals as goal
 
 pub nibble-requires : goal.nibble-requires

@@ -1,5 +1,4 @@
 -- What the decoder is given and what its answer is compared with are the numbers of the record.
-use borrow.Author.Rules.{rules}
 use mathlib.Core.Path.{◌∙◌}
 use mir.Syntax.{w8, w16}
 use Rattle.numbers.proofs.Range.{landed}

@@ -1,5 +1,4 @@
 -- The two numbers of the power-on record.
-use borrow.Author.Rules.{rules}
 use Rattle.replay.proofs.leaves.start.Goals as goal
 
 pub returns : goal.returns

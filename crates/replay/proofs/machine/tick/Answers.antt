@@ -1,5 +1,4 @@
 -- The tick's answer, on the power-on record with its voice 0 replaced.
-use borrow.Author.Rules.{rules}
 use mathlib.Core.Path.{ap, ◌∙◌}
 use Rattle.dsp.specs.Ticks.{step_of}
 use Rattle.replay.specs.Machine.{with_first, as_answer, answered}

@@ -1,5 +1,4 @@
 -- The record that ticks is the power-on one with this FLG and noise; voice 0's sample is compared with the record's.
-use borrow.Author.Rules.{rules}
 use mathlib.Core.Bool.{◌&&◌}
 use mathlib.Core.Path.{ap, ◌∙◌}
 use lib.IntN.{ℤ}

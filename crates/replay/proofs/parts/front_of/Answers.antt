@@ -2,13 +2,10 @@
 use borrow.Author.Rules.{rules}
 use borrow.Author.Tests.{not-true, not-false}
 use mathlib.Core.Path.{◌∙◌}
-use Prim.Native.Nat.{◌-◌, ◌≤◌}
 use native.Mathlib.Nat.{div-le_self}
 use native.Mathlib.Omega.{arith}
 use lib.ListN.{length}
-use Rattle.dsp.specs.Noise.{Noise}
-use Rattle.replay.specs.declared.records.Carry.{Carry}
-use Rattle.replay.proofs.Fronts.{UpTo, added, room, none, one_more, stops, ends}
+use Rattle.replay.proofs.Fronts.{added, room, none, one_more, stops, ends}
 use Rattle.replay.proofs.parts.front_of.Goals as goal
 
 pub loop-equal-init : goal.loop-equal-init

@@ -1,14 +1,8 @@
 -- The records passed are equal, and what they handed on is what the next is handed. The measure is the records that are left.
-use borrow.Author.Rules.{rules}
-use borrow.Author.Tests.{not-true, not-false}
-use mathlib.Core.Path.{◌∙◌}
 use Prim.Native.Nat.{◌-◌, ◌≤◌}
-use native.Mathlib.Nat.{div-le_self}
-use native.Mathlib.Omega.{arith}
-use lib.ListN.{length}
 use Rattle.dsp.specs.Noise.{Noise}
 use Rattle.replay.specs.declared.records.Carry.{Carry}
-use Rattle.replay.proofs.Fronts.{UpTo, added, room, none, one_more, stops, ends}
+use Rattle.replay.proofs.Fronts.{UpTo}
 use Rattle.replay.proofs.parts.front_of.Given as goal
 
 -- the noise that is handed on

@@ -1,5 +1,4 @@
 -- A multiple by division is at most what was divided.
-use borrow.Author.Rules.{rules}
 use native.Mathlib.Nat.{div-mul-le_self}
 use native.Mathlib.Omega.{arith}
 use Rattle.replay.proofs.parts.part_size.Goals as goal

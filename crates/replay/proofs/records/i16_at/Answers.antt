@@ -1,5 +1,4 @@
 -- The 16 bits are below 65,536; the ranges are computed.
-use borrow.Author.Rules.{rules}
 use mathlib.Core.Path.{ap, ◌∙◌}
 use Prim.Native.Nat.{ℕ, ◌≤◌}
 use native.Mathlib.Omega.{arith}

@@ -1,5 +1,4 @@
 -- The byte at the place, cut to a signed one.
-use borrow.Author.Rules.{rules}
 use mir.Syntax.{w8}
 use Rattle.numbers.proofs.Range.{landed}
 use Rattle.replay.proofs.records.i8_at.Goals as goal

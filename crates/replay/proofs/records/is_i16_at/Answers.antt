@@ -1,5 +1,4 @@
 -- The bits are compared; they are equal where the numbers are.
-use borrow.Author.Rules.{rules}
 use Rattle.replay.proofs.Compared.{same_bits}
 use Rattle.replay.proofs.records.is_i16_at.Goals as goal
 

@@ -1,8 +1,5 @@
 -- The measure is the bytes that are left.
 use borrow.Author.Rules.{rules}
-use mathlib.Core.Path.{◌≡◌}
-use Prim.Native.Nat.{◌-◌, ◌≤◌}
-use lib.ListN.{length}
 use native.Mathlib.Omega.{arith}
 use Rattle.chip_log.proofs.Turn.{moved}
 use Rattle.trace.proofs.ticks.run_records.Goals as goal

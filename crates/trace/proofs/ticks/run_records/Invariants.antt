@@ -1,10 +1,7 @@
 -- The measure is the bytes that are left.
-use borrow.Author.Rules.{rules}
 use mathlib.Core.Path.{◌≡◌}
 use Prim.Native.Nat.{◌-◌, ◌≤◌}
 use lib.ListN.{length}
-use native.Mathlib.Omega.{arith}
-use Rattle.chip_log.proofs.Turn.{moved}
 use Rattle.trace.proofs.ticks.run_records.Given as goal
 
 abbrev pub invariant-loop-found : goal.invariant-loop-found
