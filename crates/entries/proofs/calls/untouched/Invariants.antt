@@ -1,5 +1,4 @@
 -- The measure is the bytes that are left.
-use borrow.Author.Rules.{rules}
 use Prim.Native.Nat.{◌-◌, ◌≤◌}
 use lib.ListN.{length}
 use Rattle.entries.proofs.calls.untouched.Given as goal

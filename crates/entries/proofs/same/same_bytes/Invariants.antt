@@ -1,5 +1,4 @@
 -- Both slices are as long as each other past the first test. The measure is the bytes that are left.
-use borrow.Author.Rules.{rules}
 use Prim.Native.Nat.{◌-◌, ◌≤◌}
 use lib.ListN.{length}
 use Rattle.entries.proofs.same.same_bytes.Given as goal

@@ -1,5 +1,4 @@
 -- The measure is the places that are left.
-use borrow.Author.Rules.{rules}
 use Prim.Native.Nat.{◌-◌, ◌≤◌}
 use Rattle.entries.proofs.same.same_eight.Given as goal
 

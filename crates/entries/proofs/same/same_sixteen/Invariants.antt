@@ -1,5 +1,4 @@
 -- The measure is the samples that are left.
-use borrow.Author.Rules.{rules}
 use Prim.Native.Nat.{◌-◌, ◌≤◌}
 use Rattle.entries.proofs.same.same_sixteen.Given as goal
 

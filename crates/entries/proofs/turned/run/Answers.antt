@@ -1,8 +1,5 @@
 -- A tick keeps the length of each RAM. The measure is the ticks that are left.
-use borrow.Author.Rules.{rules}
-use mathlib.Core.Path.{◌≡◌, ◌∙◌}
-use Prim.Native.Nat.{◌-◌, ◌≤◌}
-use lib.ListN.{length}
+use mathlib.Core.Path.{◌∙◌}
 use native.Mathlib.Omega.{arith}
 use Rattle.entries.proofs.turned.run.Goals as goal
 

@@ -1,9 +1,7 @@
 -- A tick keeps the length of each RAM. The measure is the ticks that are left.
-use borrow.Author.Rules.{rules}
-use mathlib.Core.Path.{◌≡◌, ◌∙◌}
+use mathlib.Core.Path.{◌≡◌}
 use Prim.Native.Nat.{◌-◌, ◌≤◌}
 use lib.ListN.{length}
-use native.Mathlib.Omega.{arith}
 use Rattle.entries.proofs.turned.run.Given as goal
 
 abbrev pub invariant-loop-i : goal.invariant-loop-i

@@ -1,5 +1,4 @@
 -- The measure is the registers that are left.
-use borrow.Author.Rules.{rules}
 use Prim.Native.Nat.{◌-◌, ◌≤◌}
 use Rattle.entries.proofs.turned.turned_over.Given as goal
 

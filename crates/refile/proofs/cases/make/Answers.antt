@@ -1,9 +1,6 @@
 -- Each byte in turn.
 use borrow.Author.Rules.{rules}
-use Prim.Native.Nat.{◌-◌, ◌≤◌}
-use mathlib.Core.Path.{◌≡◌, refl}
-use native.Mathlib.Omega.{arith}
-use lib.ListN.{length}
+use mathlib.Core.Path.{refl}
 use Rattle.refile.proofs.cases.make.Goals as goal
 
 pub loop-k-init : goal.loop-k-init
