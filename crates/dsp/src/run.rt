@@ -199,6 +199,7 @@ fn is_room(m: Measured, pcm: usize, sheet: usize, readings: usize) -> bool
 
 // Plays a log with some of the lanes; the others are shown from the sheet as it is lent. The whole log is checked before the first
 // tick. Refuses 1, 2, 3, then 4 to 9, then 10.
+#[tactic(auto, unfolding(crate::specs::Run::run_with, crate::specs::Run::run_measured))]
 pub fn play_log(
     work: Work,
     start: Dsp,

@@ -3,7 +3,7 @@ use mathlib.Core.Bool.{true}
 use mathlib.Core.Path.{◌≡◌, sym, ◌∙◌}
 use native.Mathlib.Omega.{arith}
 use lib.ListN.{length}
-use borrow.Author.Tests.{eq-eqb, ne_eqb}
+use borrow.Author.Tests.{eq-eqb}
 use Rattle.chip_log.proofs.Turn.{taken}
 use Rattle.dsp.specs.Fit.{fit}
 use Rattle.dsp.specs.Run.{ran, run_measured, run_with}
@@ -13,37 +13,12 @@ use Rattle.dsp.proofs.run.play_log.Goals as goal
 
 -- ---- what the tests that let the run on have told
 
-pub returns-then-ram-ne-RAM_SIZE : goal.returns-then-ram-ne-RAM_SIZE
-unfolding run_with run_measured
-returns-then-ram-ne-RAM_SIZE c = rw (ne_eqb _ _ c.if-ram-ne-RAM_SIZE.true) (cc)
-
-pub returns-then-not-is_fit : goal.returns-then-not-is_fit
-unfolding run_with run_measured
-returns-then-not-is_fit c =
-    let ram_there : length c.args.ram.now ≡ 0x10000 = (omega (arith, c.if-ram-ne-RAM_SIZE.false)) in
-    rw (eq-eqb _ _ ram_there, sym c.is_fit.ensures ∙ c.if-not-is_fit.true) (cc)
-
-pub returns-then-m-ne0 : goal.returns-then-m-ne0
-unfolding run_with run_measured
-returns-then-m-ne0 c =
-    let ram_there : length c.args.ram.now ≡ 0x10000 = (omega (arith, c.if-ram-ne-RAM_SIZE.false)) in
-    let fit_there : fit c.args.start ≡ true = (sym c.is_fit.ensures ∙ c.if-not-is_fit.false) in
-    rw (eq-eqb _ _ ram_there, fit_there, ← c.measure-m.ensures, ne_eqb _ _ c.if-m-ne0.true) (cc)
-
 pub is_room-requires : goal.is_room-requires
 is_room-requires c = (taken _ _ c.measure-m.ensures c.if-m-ne0.false).few
 
-pub returns-then-not-is_room : goal.returns-then-not-is_room
-unfolding run_with run_measured
-returns-then-not-is_room c =
-    let ram_there : length c.args.ram.now ≡ 0x10000 = (omega (arith, c.if-ram-ne-RAM_SIZE.false)) in
-    let fit_there : fit c.args.start ≡ true = (sym c.is_fit.ensures ∙ c.if-not-is_fit.false) in
-    let r = c.is_room in
-    rw (eq-eqb _ _ ram_there, fit_there, ← c.measure-m.ensures, eq-eqb _ _ c.if-m-ne0.false, ← r.ensures, c.if-not-is_room.true) (cc)
-
 pub play_all-d-requires : goal.play_all-d-requires
 play_all-d-requires c =
-    let ram_there : length c.args.ram.now ≡ 0x10000 = (omega (arith, c.if-ram-ne-RAM_SIZE.false)) in
+    let ram_there : length c.args.ram.now ≡ 0x10000 = (omega arith) in
     let fit_there : fit c.args.start ≡ true = (sym c.is_fit.ensures ∙ c.if-not-is_fit.false) in
     let r = c.is_room.ensures in
     (ram_there, fit_facts _ fit_there, ready _ _ _ _ c.measure-m.result (taken _ _ c.measure-m.ensures c.if-m-ne0.false) (◌∙◌ {a = r 1} (sym {b = r 1} r) (c.if-not-is_room.false)))
@@ -51,7 +26,7 @@ play_all-d-requires c =
 pub returns : goal.returns
 unfolding run_with run_measured
 returns c =
-    let ram_there : length c.args.ram.now ≡ 0x10000 = (omega (arith, c.if-ram-ne-RAM_SIZE.false)) in
+    let ram_there : length c.args.ram.now ≡ 0x10000 = (omega arith) in
     let fit_there : fit c.args.start ≡ true = (sym c.is_fit.ensures ∙ c.if-not-is_fit.false) in
     let r = c.is_room in
     let m = c.measure-m.result in
