@@ -243,6 +243,7 @@ fn tell_lines(out: &impl Print, r: Ran, log: &[u8], left: Left, sheet: &[u8], re
 }
 
 // The registers of a log's readings, in their order, as many as there is room for.
+#[tactic(auto, using(crate::proofs::Listing::listed))]
 pub fn registers_read(log: &[u8], to: &mut [u8]) -> usize
     ensures { (result ≡ leastOf (length (registers_in log.now)) (length to.old)) × (to.new ≡ copied (registers_in log.now) to.old) × IsPrefixLen result to.new }
 {

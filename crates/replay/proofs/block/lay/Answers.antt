@@ -14,6 +14,3 @@ loop-k-init c = search rules
 pub loop-k-preserved : goal.loop-k-preserved
 unfolding laid
 loop-k-preserved c = (search rules, rw length-set (omega arith), rw add-one (cc))
-
-pub returns : goal.returns
-returns c = let e : length c.args.part.now ≡ c.loop-k.k = omega arith in cc

@@ -18,6 +18,3 @@ pub loop-k-preserved : goal.loop-k-preserved
 unfolding samples_equal
 loop-k-preserved c = let x = get_or c.args.samples.now c.loop-k.k (pos 0) in
     (search rules, rw add-one (cc (landed w16 {z = x} c.is_i16_at-arg-1.given)))
-
-pub returns : goal.returns
-returns c = let e : 16 ≡ c.loop-k.k = omega arith in cc

@@ -14,9 +14,6 @@ use Rattle.replay.specs.Machine.{playing, answered}
 use Rattle.replay.specs.Interpolation.{sample_says, interpolation_equal}
 use Rattle.replay.proofs.interpolation.equal.Goals as goal
 
-pub is_i16_at-requires : goal.is_i16_at-requires
-is_i16_at-requires c = omega (arith, c.requires)
-
 pub returns : goal.returns
 unfolding interpolation_equal
 returns c = let r = c.args.bytes.now in

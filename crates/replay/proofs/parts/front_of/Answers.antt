@@ -11,27 +11,8 @@ use Rattle.replay.proofs.parts.front_of.Goals as goal
 pub loop-equal-init : goal.loop-equal-init
 loop-equal-init c = (search rules, none _ _ _)
 
-pub overflow_mul-at : goal.overflow_mul-at
-overflow_mul-at c = record { fits = omega (arith, room _ _ _ c.loop-equal-test.true) }
-
-pub overflow_add-at : goal.overflow_add-at
-overflow_add-at c = record { fits = omega (arith, room _ _ _ c.loop-equal-test.true) }
-
-pub slice_bounds-check-end : goal.slice_bounds-check-end
-slice_bounds-check-end c = room _ _ _ c.loop-equal-test.true
-
-pub check-c-requires : goal.check-c-requires
-check-c-requires c = c.check-arg-1.given.1 ∙ added _ _ ∙ c.size-n.ensures.0
-
 pub returns-then-not-c : goal.returns-then-not-c
 returns-then-not-c c = stops _ _ _ _ _ _ _ c.size-n.ensures.0 c.loop-equal.invariant.1 c.check-c.ensures c.loop-equal-test.true (not-true _ c.if-not-c.true)
 
-pub overflow_add-equal : goal.overflow_add-equal
-overflow_add-equal c = let part = c.args.part.now in
-    record { fits = omega (arith, div-le_self (length part) c.size-n.result) }
-
 pub loop-equal-preserved : goal.loop-equal-preserved
 loop-equal-preserved c = (search rules, one_more _ _ _ _ _ _ _ c.size-n.ensures.0 c.loop-equal.invariant.1 c.check-c.ensures (not-false _ c.if-not-c.false))
-
-pub returns : goal.returns
-returns c = ends _ _ _ _ _ _ c.size-n.ensures.0 c.loop-equal.invariant.1 c.loop-equal.invariant.0 c.loop-equal-test.false

@@ -11,7 +11,3 @@ loop-i-init c = (search rules, refl)
 pub loop-i-preserved : goal.loop-i-preserved
 loop-i-preserved c = let l = c.loop-i in
     (search rules, one_more _ l.i _ c.loop-i-test.true refl c.with_byte-made.ensures l.invariant.1)
-
-pub returns : goal.returns
-returns c = let l = c.loop-i in
-    l.invariant.1 ∙ ap (fnv_all _) (take_all l.i _ c.loop-i-test.false)

@@ -14,9 +14,3 @@ loop-register-preserved c = let l = c.loop-register in
     let z = l.invariant.1 in
     let e : l.register % 128 ≡ l.register = omega (arith, t) in
     (omega arith, z, one_more _ l.register _ (omega (arith, t, z)) (c.read_reg.ensures ∙ ap (λ (n : ℕ). get_or c.args.dsp.registers n 0) e) c.with_byte-made.ensures l.invariant.2)
-
-pub returns : goal.returns
-returns c = let l = c.loop-register in
-    let t = c.loop-register-test.false in
-    let z = l.invariant.1 in
-    l.invariant.2 ∙ ap (fnv_all _) (take_all l.register _ (omega (arith, t, z)))

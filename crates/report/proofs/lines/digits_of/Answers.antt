@@ -4,9 +4,6 @@ use Rattle.report.specs.Hex.{in_hex}
 use Rattle.report.proofs.Digits.{unwritten, digit_before}
 use Rattle.report.proofs.lines.digits_of.Goals as goal
 
-pub loop-i-init : goal.loop-i-init
-loop-i-init c = (search rules, refl, unwritten 16 c.args.sum (replicate 16 0) refl)
-
 pub loop-i-preserved : goal.loop-i-preserved
 loop-i-preserved c = let l = c.loop-i in
     let t = c.loop-i-test.true in

@@ -3,14 +3,5 @@ use Rattle.std.proofs.Common.{sym, length-take-le, rules}
 use Rattle.report.proofs.Cuts.{cut_run}
 use Rattle.report.proofs.runs.run_cut.Goals as goal
 
-pub slice_bounds-run_on-end-2 : goal.slice_bounds-run_on-end-2
-slice_bounds-run_on-end-2 c = sym (length-take-le _ _ (search rules))
-
-pub slice_bounds-run_on-end-4 : goal.slice_bounds-run_on-end-4
-slice_bounds-run_on-end-4 c = sym (length-take-le _ _ (search rules))
-
-pub slice_bounds-run_on-end-6 : goal.slice_bounds-run_on-end-6
-slice_bounds-run_on-end-6 c = sym (length-take-le _ _ (search rules))
-
 pub returns : goal.returns
 returns c = cut_run _ _ _ _ _ _ c.measure-m.ensures c.room_for.ensures.0 c.within-n.ensures.0 c.run_on.ensures

@@ -3,15 +3,6 @@ use Rattle.std.proofs.Common.{sym, length-take-le, rules}
 use Rattle.report.proofs.Cuts.{cut_left}
 use Rattle.report.proofs.runs.tell.Goals as goal
 
-pub slice_bounds-tell_cut-end : goal.slice_bounds-tell_cut-end
-slice_bounds-tell_cut-end g c = sym (length-take-le _ _ (search rules))
-
-pub slice_bounds-tell_cut-end-2 : goal.slice_bounds-tell_cut-end-2
-slice_bounds-tell_cut-end-2 g c = sym (length-take-le _ _ (search rules))
-
-pub slice_bounds-tell_cut-end-3 : goal.slice_bounds-tell_cut-end-3
-slice_bounds-tell_cut-end-3 g c = sym (length-take-le _ _ (search rules))
-
 pub returns : goal.returns
 returns g c = let a = c.args in
     cut_left a.pcm.now a.sheet.now a.readings.now a.r.dsp a.r.ticks a.r.readings a.ram.now c.room_for.ensures.0 c.within-n.ensures.0 c.tell_cut.ensures
