@@ -30,7 +30,7 @@ returns-then-refusal-ne0 c =
 pub at_record-requires : goal.at_record-requires
 at_record-requires c =
     let fit_there : fit c.args.stage.dsp ≡ true = (sym c.is_fit.ensures ∙ c.if-not-is_fit.false) in
-    (c.if-stage-eq0.true, fit_facts _ fit_there)
+    (omega arith, fit_facts _ fit_there)
 
 pub returns-then-stage-eq0 : goal.returns-then-stage-eq0
 unfolding part_of
