@@ -1,32 +1,12 @@
 -- What is left from here gives the numbers that are still to be listed. The measure is the readings that are left.
-use borrow.Author.Rules.{rules}
 use Prim.Native.Nat.{◌+◌, ◌<◌}
 use native.Mathlib.Omega.{arith}
 use lib.ListN.{length}
-use Rattle.report.proofs.Filling.{unfilled, long, full, ended, one_put, renamed, seen_as}
+use Rattle.report.proofs.Filling.{long, ended, one_put, renamed, seen_as}
 use Rattle.remark.specs.Marking.{greatest}
 use Rattle.remark.proofs.Marks.{changed-end, changed_here, kept_here, greatest-both}
 use Rattle.remark.proofs.marking.changed.Goals as goal
 use Rattle.remark.proofs.marking.changed.Goals.{then-not-same_at, else-not-same_at}
-
-pub loop-i-init : goal.loop-i-init
-loop-i-init c = (search rules, unfilled _ _)
-
-pub shape_of-to-then-put-to : goal.shape_of-to-then-put-to
-shape_of-to-then-put-to c = long c.loop-i.invariant.1
-
-pub returns-then-put-to : goal.returns-then-put-to
-returns-then-put-to c = let f = c.loop-i.invariant.1 in let r = full f (omega (arith, long f, c.if-put-to.true)) in (r.0, r.1)
-
-pub bounds-to-put : goal.bounds-to-put
-bounds-to-put c =
-    let room : c.loop-i.put < length c.loop-i.to = (let f = c.loop-i.invariant.1 in omega (arith, long f, f.room, c.if-put-to.false)) in
-    room
-
-pub overflow_add-put : goal.overflow_add-put
-overflow_add-put c =
-    let room : c.loop-i.put < length c.loop-i.to = (let f = c.loop-i.invariant.1 in omega (arith, long f, f.room, c.if-put-to.false)) in
-    let o = room in search rules
 
 pub loop-i-preserved : goal.loop-i-preserved
 loop-i-preserved c =
@@ -43,9 +23,6 @@ loop-i-preserved c =
         | else-not-same_at w ↦ seen_as (renamed f (kept_here _ _ l.i e (l.i + 1) g w.if-not-same_at.false)) w.to-is w.put-is
       ],
     )
-
-pub shape_of-to : goal.shape_of-to
-shape_of-to c = long c.loop-i.invariant.1
 
 pub returns : goal.returns
 returns c = let l = c.loop-i in

@@ -1,11 +1,7 @@
 -- The count so far, with those that are left, gives the whole. The measure is the readings that are left.
-use borrow.Author.Rules.{rules}
 use native.Mathlib.Omega.{arith}
 use Rattle.remark.proofs.Marks.{same_end, same_more}
 use Rattle.remark.proofs.marking.same.Goals as goal
-
-pub loop-i-init : goal.loop-i-init
-loop-i-init c = (search rules, search rules, omega arith)
 
 pub loop-i-preserved : goal.loop-i-preserved
 loop-i-preserved c = let l = c.loop-i in

@@ -1,9 +1,8 @@
 -- After k turns the first k bytes stand in RAM.
 use borrow.Author.Rules.{rules}
-use mathlib.Core.Path.{◌≡◌}
 use native.Mathlib.Numerals.{add-one}
 use native.Mathlib.Omega.{arith}
-use lib.ListN.{length, length-set}
+use lib.ListN.{length-set}
 use Rattle.replay.specs.Block.{laid}
 use Rattle.replay.proofs.block.lay.Goals as goal
 

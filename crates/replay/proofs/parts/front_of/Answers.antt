@@ -1,11 +1,7 @@
 -- The records passed are equal, and what they handed on is what the next is handed. The measure is the records that are left.
 use borrow.Author.Rules.{rules}
 use borrow.Author.Tests.{not-true, not-false}
-use mathlib.Core.Path.{◌∙◌}
-use native.Mathlib.Nat.{div-le_self}
-use native.Mathlib.Omega.{arith}
-use lib.ListN.{length}
-use Rattle.replay.proofs.Fronts.{added, room, none, one_more, stops, ends}
+use Rattle.replay.proofs.Fronts.{none, one_more, stops}
 use Rattle.replay.proofs.parts.front_of.Goals as goal
 
 pub loop-equal-init : goal.loop-equal-init

@@ -1,5 +1,5 @@
 -- The digest so far is that of the bytes that were passed. The measure is the bytes that are left.
-use Rattle.std.proofs.Common.{refl, ap, ◌∙◌, take_all, rules}
+use Rattle.std.proofs.Common.{refl, rules}
 use Rattle.report.specs.Digest.{fnv_all}
 use Rattle.report.proofs.Digests.{one_more}
 use Rattle.report.proofs.digest.with_bytes.Goals as goal

@@ -1,5 +1,5 @@
 -- The digest so far is that of the registers that were passed. The measure is the registers that are left.
-use Rattle.std.proofs.Common.{◌≡◌, ℕ, ◌%◌, get_or, refl, ap, ◌∙◌, arith, take_all, rules}
+use Rattle.std.proofs.Common.{◌≡◌, ℕ, ◌%◌, get_or, refl, ap, ◌∙◌, arith, rules}
 use Rattle.report.specs.Digest.{fnv_all}
 use Rattle.report.proofs.Digests.{one_more}
 use Rattle.report.proofs.digest.with_registers.Goals as goal

@@ -1,7 +1,7 @@
 -- The digits that are left, with those that are written behind them, are the number. The measure is the digits that are left.
-use Rattle.std.proofs.Common.{◌≡◌, ℕ, ◌+◌, ◌-◌, ◌++◌, drop, replicate, sym, refl, ap, ◌∙◌, arith, length-set, rules}
+use Rattle.std.proofs.Common.{◌≡◌, ℕ, ◌+◌, ◌-◌, ◌++◌, drop, sym, ap, ◌∙◌, arith, length-set}
 use Rattle.report.specs.Hex.{in_hex}
-use Rattle.report.proofs.Digits.{unwritten, digit_before}
+use Rattle.report.proofs.Digits.{digit_before}
 use Rattle.report.proofs.lines.digits_of.Goals as goal
 
 pub loop-i-preserved : goal.loop-i-preserved

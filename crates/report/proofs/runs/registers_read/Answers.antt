@@ -1,8 +1,6 @@
 -- What is left of the log gives the registers that are still to be listed. The measure is the bytes of the log that are left.
-use Rattle.std.proofs.Common.{◌<◌, length, arith}
-use Rattle.chip_log.proofs.Turn.{moved}
-use Rattle.report.proofs.Filling.{long, full}
-use Rattle.report.proofs.Listing.{first, ended, listed, passed, others}
+use Rattle.std.proofs.Common.{arith}
+use Rattle.report.proofs.Listing.{first, ended, passed, others}
 use Rattle.report.proofs.runs.registers_read.Goals as goal
 
 pub loop-put-init : goal.loop-put-init

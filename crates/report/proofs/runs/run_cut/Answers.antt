@@ -1,5 +1,4 @@
 -- Each part that is lent has the bytes that were asked for, and what stands behind it stays.
-use Rattle.std.proofs.Common.{sym, length-take-le, rules}
 use Rattle.report.proofs.Cuts.{cut_run}
 use Rattle.report.proofs.runs.run_cut.Goals as goal
 

@@ -1,5 +1,4 @@
 -- Each part that is lent has the bytes that were asked for.
-use Rattle.std.proofs.Common.{sym, length-take-le, rules}
 use Rattle.report.proofs.Cuts.{cut_left}
 use Rattle.report.proofs.runs.tell.Goals as goal
 
