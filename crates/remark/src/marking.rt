@@ -1,8 +1,8 @@
 // The readings of two sittings side by side: how many are as before, which have changed, and whether anything has to be marked again.
 ghost use Rattle.std.specs.Prelude.{◌≡◌, ◌≤◌, length};
 ghost use Rattle.numbers.specs.Bytes.{copied};
-ghost use Rattle.numbers.specs.Unsigned.{least as leastOf};
-ghost use Rattle.remark.specs.Marking.{same as sameOf, changed as changedOf, verdict_of, kept as keptOf, same_at, greatest as greatestOf};
+ghost use Rattle.numbers.specs.Unsigned.{least as least_of};
+ghost use Rattle.remark.specs.Marking.{same as same_of, changed as changed_of, verdict_of, kept as kept_of, same_at, greatest as greatest_of};
 
 use report::runs::least;
 
@@ -13,21 +13,21 @@ pub enum Verdict {
 }
 
 fn greatest(a: usize, b: usize) -> usize
-    ensures { result ≡ greatestOf a b }
+    ensures { result ≡ greatest_of a b }
 {
     if a <= b { b } else { a }
 }
 
 // 1 for a reading that has the value that it had.
 fn kept(was: u8, is: u8) -> u64
-    ensures { (result ≡ keptOf was is) × (result ≤ 1) }
+    ensures { (result ≡ kept_of was is) × (result ≤ 1) }
 {
     if was == is { 1 } else { 0 }
 }
 
 // How many are as before.
 pub fn same(before: &[u8], after: &[u8]) -> u64
-    ensures { result ≡ sameOf before.now after.now }
+    ensures { result ≡ same_of before.now after.now }
 {
     let n = least(before.len(), after.len());
     let mut count: u64 = 0;
@@ -54,7 +54,7 @@ fn same_at(before: &[u8], after: &[u8], i: usize) -> bool
 
 // The running numbers of those that have changed, from 1, as many as there is room for.
 pub fn changed(before: &[u8], after: &[u8], to: &mut [u64]) -> usize
-    ensures { (result ≡ leastOf (length (changedOf before.now after.now)) (length to.old)) × (to.new ≡ copied (changedOf before.now after.now) to.old) }
+    ensures { (result ≡ least_of (length (changed_of before.now after.now)) (length to.old)) × (to.new ≡ copied (changed_of before.now after.now) to.old) }
 {
     let n = greatest(before.len(), after.len());
     let mut put: usize = 0;

@@ -1,6 +1,6 @@
 // The answer told: room for any log, then the lines.
 ghost use Rattle.std.specs.Prelude.{◌≡◌, ◌+◌, ◌≤◌, ◌<◌};
-ghost use Rattle.remark.specs.Marking.{is_at, behind as behindOf};
+ghost use Rattle.remark.specs.Marking.{is_at, behind as behind_of};
 
 use crate::answer::{Answer, Judged, answered};
 use crate::words;
@@ -137,7 +137,7 @@ fn tell_readings(
 
 fn behind(at: usize, is_next: bool) -> usize
     requires { at < 0xFFFFFFFFFFFFFFFF }
-    ensures { (result ≡ behindOf at is_next) × (result ≤ at + 1) }
+    ensures { (result ≡ behind_of at is_next) × (result ≤ at + 1) }
 {
     if is_next { at + 1 } else { at }
 }

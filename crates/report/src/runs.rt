@@ -2,7 +2,7 @@
 ghost use Rattle.std.specs.Prelude.{◌≡◌, ◌<◌, ◌≤◌, length};
 ghost use Rattle.std.specs.Counts.{IsPrefixLen};
 ghost use Rattle.numbers.specs.Bytes.{copied};
-ghost use Rattle.numbers.specs.Unsigned.{least as leastOf};
+ghost use Rattle.numbers.specs.Unsigned.{least as least_of};
 ghost use Rattle.dsp.specs.Run.{Outcome, run_of};
 ghost use Rattle.report.specs.Digest.{digest_of, left_by};
 ghost use Rattle.report.specs.Runs.{room_for, room_within, start_from, run_cut, left_of, Through, through, whole_of, registers_in};
@@ -35,14 +35,14 @@ pub fn room_for(ticks: u32, readings: u32) -> Room
 }
 
 pub fn least(a: usize, b: usize) -> usize
-    ensures { (result ≡ leastOf a b) × (result ≤ a) × (result ≤ b) }
+    ensures { (result ≡ least_of a b) × (result ≤ a) × (result ≤ b) }
 {
     if a <= b { a } else { b }
 }
 
 // So many bytes of a buffer, but no more than it has.
 pub fn within(n: usize, buf: &[u8]) -> usize
-    ensures { (result ≡ leastOf n (length buf.now)) × IsPrefixLen result buf.now }
+    ensures { (result ≡ least_of n (length buf.now)) × IsPrefixLen result buf.now }
 {
     least(n, buf.len())
 }
@@ -245,7 +245,7 @@ fn tell_lines(out: &impl Print, r: Ran, log: &[u8], left: Left, sheet: &[u8], re
 // The registers of a log's readings, in their order, as many as there is room for.
 #[tactic(auto, using(crate::proofs::Listing::listed))]
 pub fn registers_read(log: &[u8], to: &mut [u8]) -> usize
-    ensures { (result ≡ leastOf (length (registers_in log.now)) (length to.old)) × (to.new ≡ copied (registers_in log.now) to.old) × IsPrefixLen result to.new }
+    ensures { (result ≡ least_of (length (registers_in log.now)) (length to.old)) × (to.new ≡ copied (registers_in log.now) to.old) × IsPrefixLen result to.new }
 {
     let mut put: usize = 0;
     let mut at: usize = 0;
