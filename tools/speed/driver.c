@@ -1,5 +1,5 @@
-/* driver LOG RAM RUNS: calls the compiled Rattle program's run, which is sitting's run_new, over the RAM of a file.
-   driver LOG RAM RUNS NEW NAMED: calls run, then its redo, the same run with a rework to the log NEW behind it, and prints by how much
+/* driver LOG RAM RUNS: calls rt_run of the compiled library, which is sitting's run_new, over the RAM of a file.
+   driver LOG RAM RUNS NEW NAMED: calls rt_run, then rt_redo, the same run with a rework to the log NEW behind it, and prints by how much
    the second takes longer; NAMED is the mask of voices. With 0 runs it calls redo once. */
 #include <stdint.h>
 #include <stdio.h>
@@ -8,8 +8,9 @@
 #include <time.h>
 
 typedef struct { uint8_t *p; uint64_t n; } slice;
-uint8_t rt_run(slice *ram, slice *log, slice *pcm, slice *sheet, slice *readings);
-uint8_t rt_redo(uint8_t named, slice *ram, slice *old, slice *new, slice *pcm, slice *sheet, slice *readings);
+uint8_t rt_run(uint8_t *, uint64_t, const uint8_t *, uint64_t, uint8_t *, uint64_t, uint8_t *, uint64_t, uint8_t *, uint64_t);
+uint8_t rt_redo(uint8_t, uint8_t *, uint64_t, const uint8_t *, uint64_t, const uint8_t *, uint64_t, uint8_t *, uint64_t, uint8_t *, uint64_t, uint8_t *, uint64_t);
+#define LENT(s) (s).p, (s).n
 static uint8_t image[65536], ram[65536], logged[65536], other[65536], pcm[32000 * 4], sheet[32000 * 36], readings[20000];
 
 static void digest(const char *name, const uint8_t *bytes, uint64_t n) {
@@ -55,19 +56,19 @@ int main(int count, char **words) {
     for (int k = atoi(words[3]); k > 0; k--) {
         fill();
         int64_t begun = now();
-        refusal |= rt_run(&lent, &log, &samples, &rows, &told);
+        refusal |= rt_run(LENT(lent), LENT(log), LENT(samples), LENT(rows), LENT(told));
         int64_t took = now() - begun;
         if (count == 6) {
             fill();
             begun = now();
-            refusal |= rt_redo(named, &lent, &log, &new, &samples, &rows, &told);
+            refusal |= rt_redo(named, LENT(lent), LENT(log), LENT(new), LENT(samples), LENT(rows), LENT(told));
             took = now() - begun - took;
         }
         printf("%lld\n", (long long)took);
     }
     if (count == 6 && atoi(words[3]) == 0) {
         fill();
-        refusal |= rt_redo(named, &lent, &log, &new, &samples, &rows, &told);
+        refusal |= rt_redo(named, LENT(lent), LENT(log), LENT(new), LENT(samples), LENT(rows), LENT(told));
     }
     digest("RAM", ram, 65536);
     digest("PCM", pcm, ticks * 4);
