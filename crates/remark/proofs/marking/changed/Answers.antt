@@ -14,7 +14,7 @@ loop-i-preserved c =
     let l = c.loop-i in
     let f = l.invariant.1 in
     let h = c.loop-i-test.true in
-    let g : l.i < greatest (length c.args.before.now) (length c.args.after.now) = omega (arith, h, c.greatest-n.ensures) in
+    let g : l.i < greatest (length c.args.before.now) (length c.args.after.now) = omega arith in
     let e = c.same_at.ensures in (
       omega (arith, h),
       elim c.if-not-same_at.branch [
@@ -26,8 +26,6 @@ loop-i-preserved c =
 
 pub returns : goal.returns
 returns c = let l = c.loop-i in
-    let t = c.loop-i-test.false in
     let g = greatest-both (length c.args.before.now) (length c.args.after.now) in
-    let n = c.greatest-n.ensures in
-    let r = ended l.invariant.1 (changed-end _ _ l.i (l.i + 1) (omega (arith, t, n, g.0)) (omega (arith, t, n, g.1))) in
+    let r = ended l.invariant.1 (changed-end _ _ l.i (l.i + 1) (omega (arith, g.0)) (omega (arith, g.1))) in
     (r.0, r.1)
