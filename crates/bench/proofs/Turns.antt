@@ -11,8 +11,8 @@ use Rattle.dsp.specs.Fit.{fit}
 use Rattle.dsp.specs.declared.registers.Dsp.{Dsp}
 use Rattle.chip_log.specs.Log.{read_at}
 use Rattle.chip_log.specs.declared.Record.TheVariants.{Write, Ticks, Reading}
-use Rattle.chip_log.specs.declared.Next.{Next}
-use Rattle.chip_log.specs.declared.Next.TheVariants.{On, Off}
+use Rattle.chip_log.specs.Log.{Next}
+use Rattle.chip_log.specs.Log.{On, Off}
 use Rattle.sitting.specs.Parts.{Told, Parted, stop_at, record_at, next_at, ticks_now, sounding, log_refusal, part_of, Moved}
 use Rattle.sitting.specs.declared.parts.Heard.{Heard}
 use Rattle.sitting.specs.declared.parts.Heard.TheVariants.{Nothing, Sound, Reading as Read, End}

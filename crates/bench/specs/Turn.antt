@@ -1,9 +1,8 @@
 -- A turn of a run: what a part puts out, and that the parts come to an end.
-use Rattle.std.specs.Prelude.{◌≡◌, ℕ, ◌+◌, ◌-◌, ◌*◌, ◌≤◌}
+use Rattle.std.specs.Prelude.{◌≡◌, ℕ, ◌+◌, ◌-◌, ◌*◌, ◌≤◌, Option, Some, None, Result, Ok, Err}
 use Rattle.sitting.specs.declared.parts.Heard.{Heard}
 use Rattle.sitting.specs.declared.parts.Heard.TheVariants.{Nothing, Sound, Reading, End}
-use Rattle.bench.specs.declared.running.Put.{Put}
-use Rattle.bench.specs.declared.running.Put.TheVariants.{On, Off}
+use Rattle.bench.specs.declared.running.Stopped.{Stopped}
 
 -- a part's ticks lie in the PCM buffer, four bytes each
 abbrev pub Fits : Heard → ℕ → Type 0
@@ -20,9 +19,10 @@ Printed (Reading r x) q p = p ≡ q + 1
 Printed End q p = ⊥
 
 -- it goes on after no end, and a reading more is one number more
-abbrev pub Done : Heard → ℕ → Put → Type 0
-Done heard q (On p) = Printed heard q p
-Done heard q (Off ran) = Unit {0}
+abbrev pub Done : Heard → ℕ → Result (Option ℕ) Stopped → Type 0
+Done heard q (Ok (Some p)) = Printed heard q p
+Done heard q (Ok None) = Unit {0}
+Done heard q (Err stopped) = Unit {0}
 
 -- what is left of a log: its bytes from a place on, and the ticks still to come, of which a record has fewer than 65,536
 abbrev pub weight : ℕ → ℕ → ℕ → ℕ

@@ -3,7 +3,7 @@ use Rattle.std.specs.Prelude.{List, ℕ, ◌+◌, ◌*◌}
 use Rattle.dsp.specs.Run.{Outcome}
 use Rattle.rework.specs.Rework.{Left}
 use Rattle.wav.specs.Wav.{Restored}
-use Rattle.wav.specs.declared.Frames.{Frames}
+use Rattle.wav.specs.Wav.{Frames}
 
 pub record PlayedOut : Type 0 where
   pub refusal : ℕ

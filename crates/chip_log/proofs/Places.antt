@@ -1,36 +1,18 @@
 -- Places of a log: a record ends past where it began; and the bound on the number of records is never met.
-use mathlib.Core.Bool.{true, false}
 use mathlib.Core.List.{List, [], ◌∷◌}
 use mathlib.Core.Path.{◌≡◌, refl, sym, ap, subst, ◌∙◌}
-use Prim.Native.Nat.{ℕ, zero, suc, ◌+◌, ◌-◌, ◌*◌, ◌≤◌, ◌<◌}
+use Prim.Native.Nat.{ℕ, zero, suc, ◌+◌, ◌*◌, ◌≤◌, ◌<◌}
 use native.Mathlib.Omega.{arith}
 use native.Mathlib.Numerals.{add-one}
 use lib.ListN.{length, get_or}
-use borrow.Author.Tests.{ltb-false, lt-ltb, le-ltb, le-leb, eq-eqb, ne_eqb}
+use borrow.Author.Tests.{ltb-false, le-leb}
 use Rattle.numbers.specs.Choice.{◌≤?◌, ◌<?◌, ◌=?◌}
 use Rattle.numbers.proofs.Choice.{tested}
 use Rattle.chip_log.specs.declared.Record.{Record}
 use Rattle.chip_log.specs.declared.Record.TheVariants.{Write, Ticks, Reading}
-use Rattle.chip_log.specs.declared.Next.{Next}
-use Rattle.chip_log.specs.declared.Next.TheVariants.{On, Off}
+use Rattle.chip_log.specs.Log.{Next}
+use Rattle.chip_log.specs.Log.{On, Off}
 use Rattle.chip_log.specs.Log.{byte_in, write_record, ticks_record, reading_record, by_mark, read_at, Moves, Decoded, before, decode_from, records_from}
-
--- ---- as many bytes as are left from a place on
-
-abbrev Left : ℕ → ℕ → ℕ → Type 0
-Left size at left = (left ≡ size - at) × (at < size)
-
-pub cut_short : (n size at left : ℕ) → Left size at left → left < n → (size <? at + n) ≡ true
-cut_short n size at left l h = lt-ltb size (at + n) (omega (arith, l.0, l.1, h))
-
-pub whole : (n size at left : ℕ) → Left size at left → n ≤ left → (size <? at + n) ≡ false
-whole n size at left l h = le-ltb size (at + n) (omega (arith, l.0, l.1, h))
-
-pub last : (n size at left : ℕ) → Left size at left → left ≡ n → (size =? at + n) ≡ true
-last n size at left l h = eq-eqb size (at + n) (omega (arith, l.0, l.1, h))
-
-pub followed : (n size at left : ℕ) → Left size at left → (left ≡ n → ⊥) → (size =? at + n) ≡ false
-followed n size at left l h = ne_eqb size (at + n) (λ e. h (omega (arith, l.0, l.1, e)))
 
 -- ---- a record ends past where it began
 

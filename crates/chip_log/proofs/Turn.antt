@@ -8,11 +8,14 @@ use native.Mathlib.Omega.{arith}
 use lib.ListN.{length}
 use borrow.Author.Tests.{lt-ltb, le-ltb, ltb-false, ne_eqb}
 use Rattle.numbers.specs.Choice.{◌<?◌}
+use Rattle.refusal.specs.Refusal.{number}
+use Rattle.refusal.specs.declared.Refusal.{Refusal}
+use Rattle.refusal.proofs.Numbers.{positive}
 use Rattle.chip_log.specs.declared.Record.{Record}
 use Rattle.chip_log.specs.declared.Record.TheVariants.{Write, Ticks, Reading}
-use Rattle.chip_log.specs.declared.Next.{Next}
-use Rattle.chip_log.specs.declared.Next.TheVariants.{On, Off}
-use Rattle.chip_log.specs.declared.Measured.{Measured}
+use Rattle.chip_log.specs.Log.{Next}
+use Rattle.chip_log.specs.Log.{On, Off}
+use Rattle.chip_log.specs.Measure.{Measured}
 use Rattle.chip_log.specs.Log.{read_at, Moves, Known, Decoded, before, decode_from, decode}
 use Rattle.chip_log.specs.Measure.{ticks_in, readings_in, unmeasured, ended_at, total, total_of, measure_of}
 
@@ -85,6 +88,10 @@ module _ {log : List ℕ} {at t q : ℕ} {n : Next} (here : Here log at t q) (is
 
 abbrev pub good : ℕ → ℕ → Measured
 good T Q = record { refusal = 0; ticks = T; readings = Q }
+
+-- a refusal is told by its number, and no ticks and readings are
+pub refused_at : (r : Refusal) (t q : ℕ) → ended_at (number r) t q ≡ unmeasured (number r)
+refused_at r t q = rw (ne_eqb (number r) 0 (let h = positive r in omega arith))
 
 -- a refusal has another number
 refused_not : {A : Type 0} (k T Q : ℕ) → unmeasured (suc k) ≡ good T Q → A

@@ -1,10 +1,21 @@
 -- What stands at a place of a log, and the log's records (document 01, "Log, sheet, program").
-use Rattle.std.specs.Prelude.{ℕ, zero, suc, ◌+◌, ◌*◌, ◌≤◌, ◌<◌, List, [], ◌∷◌, length, get_or, if◌then◌else◌}
+use Rattle.std.specs.Prelude.{ℕ, zero, suc, ◌+◌, ◌*◌, ◌≤◌, ◌<◌, List, [], ◌∷◌, length, get_or, Option, Some, None, Result, Ok, Err, if◌then◌else◌}
 use Rattle.numbers.specs.Choice.{◌≤?◌, ◌<?◌, ◌=?◌}
 use Rattle.chip_log.specs.declared.Record.{Record}
 use Rattle.chip_log.specs.declared.Record.TheVariants.{Write, Ticks, Reading}
-use Rattle.chip_log.specs.declared.Next.{Next}
-use Rattle.chip_log.specs.declared.Next.TheVariants.{On, Off}
+use Rattle.refusal.specs.Refusal.{number}
+use Rattle.refusal.specs.declared.Refusal.{Refusal}
+
+-- what stands at a place: on, with a record and the place behind it; or off, 0 at the end record, else the refusal's number
+pub data Next : Type 0 where
+  On : Record → ℕ → Next
+  Off : ℕ → Next
+
+-- an answer of the reader, in these words
+abbrev pub next_of : Result (Option (Record × ℕ)) Refusal → Next
+next_of (Ok (Some p)) = On p.0 p.1
+next_of (Ok None) = Off 0
+next_of (Err r) = Off (number r)
 
 -- byte i of a log
 abbrev pub byte_in : List ℕ → ℕ → ℕ

@@ -1,10 +1,18 @@
 -- What a caller must lend for a log, or the log's refusal.
-use Rattle.std.specs.Prelude.{ℕ, ◌+◌, List, [], ◌∷◌, length, if◌then◌else◌}
+use Rattle.std.specs.Prelude.{ℕ, ◌+◌, List, [], ◌∷◌, length, Result, Ok, Err, if◌then◌else◌}
 use Rattle.numbers.specs.Choice.{◌<?◌, ◌=?◌}
 use Rattle.chip_log.specs.Log.{Decoded, decode}
 use Rattle.chip_log.specs.declared.Record.{Record}
 use Rattle.chip_log.specs.declared.Record.TheVariants.{Write, Ticks, Reading}
-use Rattle.chip_log.specs.declared.Measured.{Measured}
+use Rattle.chip_log.specs.declared.Measured.{Measured as Needed}
+use Rattle.refusal.specs.Refusal.{number}
+use Rattle.refusal.specs.declared.Refusal.{Refusal}
+
+-- 0 or the log's refusal, and its ticks and readings: "Success answers 0. A refusal answers its number .. and zeros elsewhere"
+pub record Measured : Type 0 where
+  pub refusal : ℕ
+  pub ticks : ℕ
+  pub readings : ℕ
 
 abbrev pub ticks_in : Record → ℕ
 ticks_in (Write r v) = 0
@@ -18,6 +26,11 @@ readings_in (Reading r) = 1
 
 abbrev pub unmeasured : ℕ → Measured
 unmeasured k = record { refusal = k; ticks = 0; readings = 0 }
+
+-- an answer of `measure`, in these words
+abbrev pub measured_as : Result Needed Refusal → Measured
+measured_as (Ok m) = record { refusal = 0; ticks = m.ticks; readings = m.readings }
+measured_as (Err r) = unmeasured (number r)
 
 -- at the end of the records
 abbrev pub ended_at : ℕ → ℕ → ℕ → Measured

@@ -42,9 +42,9 @@ pub record Arrays : Type 0 where
   pub plays : List Play
   pub feeds : List Feed
   pub currents : List ℤ
-  pub store : List ℤ
+  pub store : List (List ℤ)
 
-abbrev pub arrays : List Envelope → List Play → List Feed → List ℤ → List ℤ → Arrays
+abbrev pub arrays : List Envelope → List Play → List Feed → List ℤ → List (List ℤ) → Arrays
 arrays e p f x s = record { envelopes = e; plays = p; feeds = f; currents = x; store = s }
 
 pub record Sized (a : Arrays) : Type 0 where
@@ -52,7 +52,7 @@ pub record Sized (a : Arrays) : Type 0 where
   pub plays : length a.plays ≡ 8
   pub feeds : length a.feeds ≡ 8
   pub currents : length a.currents ≡ 8
-  pub store : length a.store ≡ 128
+  pub store : length a.store ≡ 8
 
 module _ (dials : List Dial) where
   abbrev pub voice_at : Arrays → ℕ → Voice

@@ -1,38 +1,50 @@
--- An array that a loop makes of another one, or changes in place, element by element.
-use mathlib.Core.List.{List, map, map-append}
-use mathlib.Core.Path.{◌≡◌, refl, sym, ◌∙◌, ap}
-use Prim.Native.Nat.{ℕ, ◌+◌, ◌≤◌, ◌<◌}
+-- What a closure that maps an array may be asked at each element, and an array that is filled by the index.
+use mathlib.Core.List.{List, [], ◌∷◌, map}
+use mathlib.Core.Path.{◌≡◌, ◌∙◌, ap, refl, subst, sym}
+use Prim.Native.Nat.{ℕ, zero, suc, ◌+◌, ◌<◌, ◌≤◌}
 use native.Mathlib.Numerals.{add-one}
 use native.Mathlib.Omega.{arith}
-use lib.ListN.{length, take, get_or, set, length-set}
-use lib.Seq.{take-suc, take_all}
-use Rattle.numbers.specs.Listed.{turns}
-use Rattle.numbers.proofs.Parts.{one_more}
+use native.Mathlib.Decide.{ℕ_discrete}
+use lib.ListN.{get_or, length, set}
+use lib.Seq.{ext_get_or}
+use denote.Param.Members.{Mut, Called}
+use Rattle.std.specs.Array.{list_steps, IsFromFnResult, IsFromFnResultFrom}
+use Rattle.std.specs.Iterator.{Yields, CallableAtEachTurn}
+use Rattle.std.specs.List.{FoldsTo}
+use Rattle.std.specs.Prelude.{Some}
+use Rattle.numbers.specs.Listed.{listed, turns}
 use Rattle.numbers.proofs.Turns.{mapped_turns}
+use Rattle.dsp.proofs.Apart.{listed-count, listed_at}
 
--- so far: the first n of `made` are what f makes of the first n of `from`
-pub record Mapped {A B : Type 0} (f : A → B) (from : List A) (made : List B) (n : ℕ) : Type 0 where
-  pub within : n ≤ length from
-  pub long : length made ≡ length from
-  pub is : take n made ≡ map f (take n from)
+module _ {A P : Type 0} (R : P → A → P → Type 0) (Q : P → A → Type 0) (d : A) (p : P) (stays : (x : A) (q : P) → R p x q → q ≡ p) where
+  each_asked : (zs xs t u : List A) (q : P) (x : A) → ((i : ℕ) → Q p (get_or xs i d)) → Yields list_steps xs zs t → FoldsTo R p zs q → list_steps t (Some x) u → Q q x
+  each_asked [] xs t u q x h y c e = subst (λ (k : P). Q k x) c (rw (y ∙ e) at (h 0))
+  each_asked (z ∷ zs) xs t u q x h y c e =
+      each_asked zs y.0 t u q x (λ i. rw y.1 at (h (suc i))) y.2 (subst (λ (k : P). FoldsTo R k zs q) (stays z c.0 c.1) c.2) e
 
-module _ {A B : Type 0} {f : A → B} {from : List A} {made : List B} where
-  pub none_mapped : length made ≡ length from → Mapped f from made 0
-  none_mapped l = record { within = omega arith; long = l; is = refl }
+-- d: what stands past the end
+pub callable : {A P : Type 0} {R : P → A → P → Type 0} {Q : P → A → Type 0} (d : A) (p : P) (xs : List A)
+    → ((x : A) (q : P) → R p x q → q ≡ p) → ((i : ℕ) → Q p (get_or xs i d)) → CallableAtEachTurn list_steps R Q xs p
+callable {R = R} {Q = Q} d p xs stays h = record { at = λ zs t q x u y c e. each_asked R Q d p stays zs xs t u q x h y c e }
 
-  -- d: what stands past the end, where no turn comes
-  pub one_mapped : {n : ℕ} (d : A) {v : B} → Mapped f from made n → n < length from → v ≡ f (get_or from n d) → Mapped f from (set made n v) (n + 1)
-  one_mapped {n} d {v} m l e =
-      record {
-        within = omega arith;
-        long = length-set made n v ∙ m.long;
-        is = rw (one_more made n v (f (get_or from n d)) e (omega arith), m.is, add-one n, take-suc from n d l, map-append);
-      }
+-- an array that `from_fn` makes: where each call gives f of its index and leaves the closure as it was, it is f 0, f 1, .. f (n - 1)
+module _ {F B : Type 0} (g : Mut F (ℕ × Unit {0}) B) (p : F) (ys : List B) (f : ℕ → B) (gives : (i : ℕ) (y : B) (q : F) → Called g p (i, tt) y q → (q ≡ p) × (y ≡ f i)) where
+  each_filled : (n i : ℕ) → IsFromFnResultFrom g p ys i n → (k : ℕ) (d : B) → i ≤ k → k < i + n → get_or ys k d ≡ f k
+  each_filled zero i r k d l h = absurd (omega arith)
+  each_filled (suc n) i r k d l h =
+      let e = gives i r.1 r.0 r.3 in
+      elim (ℕ_discrete k i) [
+        | yes y ↦ rw y (r.2.1 d ∙ e.1)
+        | no y ↦ each_filled n (i + 1) (subst (λ (q : F). IsFromFnResultFrom g q ys (i + 1) n) e.0 r.4) k d (omega arith) (omega arith)
+      ]
 
-  pub all_mapped : {n : ℕ} → Mapped f from made n → n ≡ length from → made ≡ map f from
-  all_mapped {n} m e = sym (take_all n made (omega arith)) ∙ m.is ∙ ap (map f) (take_all n from (omega arith))
+pub filled : {F B : Type 0} {g : Mut F (ℕ × Unit {0}) B} {p : F} {ys : List B} {n : ℕ} (f : ℕ → B)
+    → ((i : ℕ) (y : B) (q : F) → Called g p (i, tt) y q → (q ≡ p) × (y ≡ f i)) → IsFromFnResult g p ys n → ys ≡ listed f n
+filled {g = g} {p = p} {ys = ys} {n = n} f gives m =
+    let c = listed-count f n in
+    ext_get_or (f 0) ys (listed f n) (m.long ∙ sym c) (λ (k : ℕ) (l : k < length ys). each_filled g p ys f gives n 0 m.each k (f 0) (omega arith) (omega (arith, m.long)) ∙ sym (listed_at f (f 0) n k (omega (arith, m.long))))
 
--- ---- in place
+-- ---- an array that a loop changes in place, element by element
 
 -- d: what stands past the end, where no turn comes
 abbrev change_at : {A : Type 0} → A → (A → A) → ℕ → List A → List A

@@ -13,7 +13,7 @@ use borrow.Rule.Slice.PartMut.{put_mid, mid_of, put_same}
 use Rattle.numbers.specs.Choice.{◌=?◌}
 use Rattle.sound.specs.Sound.{joined}
 use Rattle.numbers.proofs.Choice.{chosen}
-use Rattle.numbers.proofs.Parts.{Written, written_to, rest_is, part_found, part_written, sized, written_on}
+use Rattle.numbers.proofs.Parts.{Written, written_to, rest_is, part_found, part_written, written_on}
 use Rattle.numbers.specs.Bits.{bit}
 use Rattle.numbers.specs.Listed.{turns}
 use Rattle.dsp.specs.Machine.{no_voice, Parts, Globals}
@@ -107,10 +107,6 @@ lane_shown mask c ram found at start v sheet voices delays bytes acc a b bytes' 
     subst (λ (z : List ℕ). Lanes mask c ram found at start (v + 1) z voices delays bytes' acc') (put_same a (b - a) sheet)
     (subst (λ (z : List ℕ). Lanes mask c ram found at start (v + 1) (put_mid a (b - a) sheet slot) voices z bytes' acc') (set-get_or delays v 0)
     (subst (λ (z : List Voice). Lanes mask c ram found at start (v + 1) (put_mid a (b - a) sheet slot) z (set delays v (get_or delays v 0)) bytes' acc') (set-get_or voices v no_voice) y))
-
-pub lanes_sized : {mask : ℕ} {c : Shared} {ram found : List ℕ} {at : ℕ} {start : Round} {v : ℕ} {sheet : List ℕ} {voices : List Voice} {delays bytes : List ℕ} {acc : Sums}
-    → Lanes mask c ram found at start v sheet voices delays bytes acc → at + v * 4 ≤ length found → length sheet ≡ length found
-lanes_sized l h = sized l.lanes h
 
 -- ---- the ticks
 

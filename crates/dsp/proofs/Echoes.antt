@@ -1,6 +1,6 @@
 -- Laws of the echo: what bounds a fit pointer, what one side's calls give, and that a tick keeps the echo's numbers fit.
 use mathlib.Core.List.{List}
-use mathlib.Core.Logic.{◌⊎◌, inl, inr, ⊎_elim}
+use mathlib.Core.Logic.{◌⊎◌, inl, inr}
 use mathlib.Core.Path.{◌≡◌, refl}
 use Prim.Native.Nat.{ℕ, ◌+◌, ◌%◌, ◌≤◌, ◌<◌}
 use native.Mathlib.Omega.{arith}
@@ -18,10 +18,7 @@ use Rattle.sound.specs.Sound.{fed_back, fir_of}
 use Rattle.dsp.specs.Machine.{Globals}
 use Rattle.dsp.specs.Fit.{FitGlobals}
 use Rattle.dsp.specs.Echo.{echo_read, length_now, pointer_next, echo_moved, history_now, echo_now}
-use Rattle.dsp.proofs.Fits.{most_of, pointer_within}
-
-pub pointer_low : (g : Globals) → FitGlobals g → g.echo_ptr ≤ 30720
-pointer_low g f = ⊎_elim (λ e. omega arith) (λ l. omega arith) (pointer_within g f)
+use Rattle.dsp.proofs.Fits.{most_of}
 
 -- ---- one side: its history h, its output y and what it feeds back, z, which the machine reads from their bits
 module _ (g : Globals) (ram : List ℕ) (taps : List ℤ) (k : ℕ) (history : List ℤ) (input : ℤ) where

@@ -2,7 +2,6 @@
 use Rattle.std.proofs.Common.{if◌then◌else◌}
 use mathlib.Core.Bool.{Bool, true}
 use mathlib.Core.List.{List, [], ◌∷◌, ◌++◌, map}
-use mathlib.Core.Logic.{◌⊎◌}
 use mathlib.Core.Path.{◌≡◌, refl}
 use Prim.Native.Nat.{ℕ, ◌/◌, ◌%◌, ◌≤◌, ◌<◌}
 use native.Mathlib.Omega.{arith}
@@ -47,9 +46,6 @@ facts_first (x ∷ xs) ys h = (h.0, facts_first xs ys h.1)
 facts_second : (xs ys : List Clause) → Facts (xs ++ ys) → Facts ys
 facts_second [] ys h = h
 facts_second (x ∷ xs) ys h = facts_second xs ys h.1
-
-pub pointer_within : (g : Globals) → FitGlobals g → (g.echo_ptr ≡ 0) ⊎ (g.echo_ptr < g.echo_len)
-pointer_within g h = h.1.1.1.1.1.1.1.0
 
 -- ---- the facts of a voice
 

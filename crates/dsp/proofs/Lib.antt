@@ -5,7 +5,6 @@ pub mod Envelopes
 pub mod Pitch
 pub mod Plays
 pub mod Samples
-pub mod Store
 pub mod Outputs
 pub mod Echoes
 pub mod Readings

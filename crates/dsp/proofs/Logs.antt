@@ -1,6 +1,6 @@
 -- A log over the parts: where its loop stands, what each record does to the arrays, and that what is left of the log from there gives the
 -- whole run.
-use Rattle.std.proofs.Common.{if◌then◌else◌}
+use Rattle.std.proofs.Common.{Option, Some, Result, Ok, if◌then◌else◌}
 use mathlib.Core.Bool.{Bool, true, false, ◌&&◌}
 use mathlib.Core.List.{List, [], ◌++◌, map, append-nil}
 use mathlib.Core.Path.{◌≡◌, refl, sym, ap, subst, ◌∙◌}
@@ -15,13 +15,12 @@ use borrow.Rule.Slice.PartMut.{put_mid, mid_of, mid_len, Post-is, same_len_mid}
 use Rattle.numbers.specs.Choice.{◌=?◌}
 use Rattle.numbers.specs.Bits.{bit}
 use Rattle.numbers.proofs.Parts.{one_more, written_to, done_is, rest_is, part_written}
-use Rattle.chip_log.specs.Log.{Known, read_at, decode_from, decode}
+use Rattle.refusal.specs.declared.Refusal.{Refusal}
+use Rattle.chip_log.specs.Log.{Next, On, Off, next_of, Known, Moves, read_at, decode_from, decode}
 use Rattle.chip_log.specs.Measure.{ticks_in, readings_in}
 use Rattle.chip_log.specs.declared.Record.{Record}
 use Rattle.chip_log.specs.declared.Record.TheVariants.{Write, Ticks, Reading}
-use Rattle.chip_log.specs.declared.Next.{Next}
-use Rattle.chip_log.specs.declared.Next.TheVariants.{Off}
-use Rattle.chip_log.proofs.Turn.{Here, Turned, ended, most}
+use Rattle.chip_log.proofs.Turn.{Here, Turned, turned, ended, most}
 use Rattle.dsp.specs.Machine.{no_voice, Parts}
 use Rattle.dsp.specs.Keys.{silenced}
 use Rattle.dsp.specs.Registers.{write_voice, resets, globals_after, bytes_after, voices_after, taps_after, write_parts}
@@ -211,8 +210,25 @@ pub record Between (w : Work) (log pcm₀ sheet₀ readings₀ : List ℕ) (x₀
 
 -- ---- a record moves it on
 
+-- a record that was read: it moves the place on, and what is lent has room for it
+pub record Found (log pcm sheet readings : List ℕ) (at t q f : ℕ) (r : Record) (behind : ℕ) : Type 0 where
+  pub turned : Turned log at t q f r behind
+  pub known : Known r
+  pub few : t + ticks_in r ≤ 32000
+  pub samples : t * 4 + ticks_in r * 4 ≤ length pcm
+  pub rows : t * 36 + ticks_in r * 36 ≤ length sheet
+  pub said : q + readings_in r ≤ length readings
+
 module _ {w : Work} {log pcm₀ sheet₀ readings₀ : List ℕ} {x₀ : Run} {dials : List Dial} {taps : List ℤ} {a : Arrays} {delays bytes : List ℕ} {f : Far} {ram pcm sheet readings : List ℕ} {t q at : ℕ}
     (s : Between w log pcm₀ sheet₀ readings₀ x₀ dials taps a delays bytes f ram pcm sheet readings t q at) {behind : ℕ} where
+  pub found : {r x : Record} {a : Result (Option (Record × ℕ)) Refusal} {o : Option (Record × ℕ)} → Ready log pcm₀ sheet₀ readings₀
+      → (next_of a ≡ read_at log at) × Moves at (length log) (next_of a) → a ≡ Ok o → o ≡ Some (x, behind) → x ≡ r → Found log pcm sheet readings at t q s.playing.here.f r behind
+  found {r} {x} {a} R e is some k =
+      let n : next_of a ≡ On r behind = ap next_of (is ∙ ap (λ (y : Option (Record × ℕ)). Ok y) some) ∙ ap (λ (y : Record). On y behind) k in
+      let u = turned s.playing.here e.0 R.all n e.1 in
+      let m = room pcm sheet readings R s.pcm-is s.sheet-is s.readings-is u in
+      record { turned = u; known = m.0; few = m.1; samples = omega (arith, m.2); rows = omega (arith, m.3); said = m.4 }
+
   pub on_write : (i x : ℕ) (e : Dial) (taps' : List ℤ) (b : Arrays) (bytes' : List ℕ) (f' : Far) → Turned log at t q s.playing.here.f (Write i x) behind → i < 128 → x < 256 → Sized b
       → length taps' ≡ 8
       → ((env : Envelope) (p : Play) (d : Feed) (y : ℤ) (l : List ℤ) → as_voice e env p d y l ≡ write_voice (i % 16) x (as_voice (get_or dials (i / 16) no_dial) env p d y l)) × Wound e.settings

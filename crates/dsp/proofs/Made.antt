@@ -12,7 +12,7 @@ use denote.Shadow.{shadow}
 use denote.Array.{each}
 use denote.Struct.Declared.{row}
 use Rattle.dsp.specs.Machine.{no_voice}
-use Rattle.dsp.specs.Inside.{Wound, as_voice, envelope_of, dial_of, play_of, feed_of, no_dial, no_envelope, no_play, no_feed, samples_at, voices_in}
+use Rattle.dsp.specs.Inside.{Wound, as_voice, envelope_of, dial_of, play_of, feed_of, no_dial, no_envelope, no_play, no_feed, voices_in, samples_at}
 use Rattle.dsp.specs.declared.voice.Voice.{Voice}
 use Rattle.dsp.proofs.Apart.{arrays, voices_from, voice-at, voices-count}
 use Rattle.dsp.specs.contracts.voice.Voice.{the_type}
@@ -28,9 +28,8 @@ four (a ∷ b ∷ c ∷ d ∷ []) e = refl
 four (a ∷ b ∷ c ∷ d ∷ x ∷ xs) e = absurd (omega arith)
 
 -- the parts of a voice make it again
-pub voice-again : (v : Voice) (samples : List ℤ) → length v.history ≡ 4 → samples ≡ v.brr.sample_buffer
-    → as_voice (dial_of v) (envelope_of v.adsr) (play_of v) (feed_of v.brr) v.current_sample samples ≡ v
-voice-again v samples e s = rw (four v.history e, s)
+pub voice-again : (v : Voice) → length v.history ≡ 4 → as_voice (dial_of v) (envelope_of v.adsr) (play_of v) (feed_of v.brr) v.current_sample v.brr.sample_buffer ≡ v
+voice-again v e = rw (four v.history e)
 
 -- ---- all voices
 
@@ -52,8 +51,12 @@ module _ (vs : List Voice) (count : length vs ≡ 8) where
   pub dials_wound : (k : ℕ) → k < 8 → Wound (get_or (map dial_of vs) k no_dial).settings
   dials_wound k l = rw (mapped_at dial_of vs no_voice no_dial k (omega arith)) (record { attack = refl; decay = refl; sustain = refl; gain = refl })
 
+  -- where each voice's samples are stored at its place
+  pub stored-samples : (k : ℕ) → k < 8 → samples_at k (map (λ v. v.brr.sample_buffer) vs) ≡ (get_or vs k no_voice).brr.sample_buffer
+  stored-samples k l = mapped_at (λ w. w.brr.sample_buffer) vs no_voice [] k (omega arith)
+
   -- the parts of the voices make them again
-  pub voices-again : (store : List ℤ) → ((k : ℕ) → k < length vs → length (get_or vs k no_voice).history ≡ 4)
+  pub voices-again : (store : List (List ℤ)) → ((k : ℕ) → k < length vs → length (get_or vs k no_voice).history ≡ 4)
       → ((k : ℕ) → k < 8 → samples_at k store ≡ (get_or vs k no_voice).brr.sample_buffer)
       → voices_in (map dial_of vs) (map (λ v. envelope_of v.adsr) vs) (map play_of vs) (map (λ v. feed_of v.brr) vs) (map (λ v. v.current_sample) vs) store ≡ vs
   voices-again store four-each samples =
@@ -66,5 +69,5 @@ module _ (vs : List Voice) (count : length vs ≡ 8) where
       voice-at dials a k (omega arith)
       ∙ (λ i.
       as_voice (mapped_at dial_of vs no_voice no_dial k h i) (mapped_at (λ w. envelope_of w.adsr) vs no_voice no_envelope k h i) (mapped_at play_of vs no_voice no_play k h i) (mapped_at (λ w. feed_of w.brr) vs no_voice no_feed k h i)
-      (mapped_at (λ w. w.current_sample) vs no_voice (pos 0) k h i) (samples_at k store))
-      ∙ voice-again (get_or vs k no_voice) (samples_at k store) (four-each k h) (samples k (omega arith)))
+      (mapped_at (λ w. w.current_sample) vs no_voice (pos 0) k h i) (samples k (omega arith) i))
+      ∙ voice-again (get_or vs k no_voice) (four-each k h))

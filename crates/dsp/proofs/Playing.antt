@@ -5,7 +5,7 @@ use mathlib.Core.Path.{◌≡◌}
 use Prim.Native.Nat.{ℕ, ◌*◌}
 use lib.ListN.{length}
 use Rattle.numbers.specs.Choice.{◌=?◌}
-use Rattle.chip_log.specs.declared.Measured.{Measured}
+use Rattle.chip_log.specs.Measure.{Measured}
 use Rattle.chip_log.proofs.Turn.{Taken}
 use Rattle.dsp.specs.Inside.{Ready}
 use Rattle.dsp.proofs.Tests.{eq, ◌and◌}

@@ -22,13 +22,12 @@ use Rattle.dsp.specs.Machine.{no_voice}
 use Rattle.dsp.specs.With.{with_state, moved, with_brr, with_nibble}
 use Rattle.dsp.specs.Fit.{FitBrr}
 use Rattle.dsp.specs.Keys.{silenced}
-use Rattle.dsp.specs.Brr.{DecodedBlock, decode_block}
+use Rattle.dsp.specs.Brr.{decode_block}
 use Rattle.dsp.specs.Voice.{Sounding, PitchSource, block_of, filled, placed, decoded_at, resolved, pushed, idle, advanced, Stepped, shown, sounded}
-use Rattle.dsp.specs.Inside.{as_envelope, history_of, as_brr, as_sounding, as_decoded, pushed_on, gone_on}
+use Rattle.dsp.specs.Inside.{as_envelope, history_of, as_brr, as_sounding, pushed_on, gone_on}
 use Rattle.dsp.specs.declared.adsr.Adsr.{Adsr}
 use Rattle.dsp.specs.declared.adsr.Envelope.{Envelope}
 use Rattle.dsp.specs.declared.adsr.EnvelopePhase.TheVariants.{Off}
-use Rattle.dsp.specs.declared.brr.Block.{Block}
 use Rattle.dsp.specs.declared.brr.Brr.{Brr}
 use Rattle.dsp.specs.declared.play.Feed.{Feed}
 use Rattle.dsp.specs.declared.play.Play.{Play}
@@ -112,12 +111,6 @@ play-at v e f samples endx p q position on k t h =
 pub same-play : (v : Voice) (e : Envelope) (f : Feed) (samples : List ℤ) (endx : Bool) (p q : Play) → p.key_on ≡ q.key_on → p.nibble_idx ≡ q.nibble_idx
     → p.pitch_counter ≡ q.pitch_counter → history_of p ≡ history_of q → as_sounding v e p f samples endx ≡ as_sounding v e q f samples endx
 same-play v e f samples endx p q on k t h = play-at v e f samples endx p q q.pitch_counter on k t h
-
--- a block at its first sample, whose two newest samples the code reads back
-pub fed_block : (p : Play) (samples : List ℤ) (b : Block) (d : DecodedBlock) (here a : ℕ) (x y : ℤ) → p.nibble_idx ≡ 0 → here ≡ a → x ≡ b.prev1 → y ≡ b.prev2
-    → as_decoded b samples ≡ d → as_brr p (record { addr = here; buffer_fill = 16; prev1 = x; prev2 = y; block_end = b.end }) samples ≡ block_of a d
-fed_block p samples b d here a x y k e₁ e₂ e₃ e₄ =
-    (λ i. with_nibble (block_of here (record { samples = samples; prev1 = e₂ i; prev2 = e₃ i; end = b.end; loops = b.loops })) (k i)) ∙ (λ i. block_of (e₁ i) (e₄ i))
 
 -- ---- a block change
 

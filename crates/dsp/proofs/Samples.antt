@@ -117,11 +117,6 @@ module _ (ram : List ℕ) (dir srcn : ℕ) where
 
 -- ---- what n samples of a block change: the index and the history, and nothing else
 
-pub pushed_index : (n : ℕ) (s : Sounding) → index (pushed_on n s) ≡ index s + n
-unfolding pushed_on pushed
-pushed_index zero s = omega arith
-pushed_index (suc n) s = pushed_index n (pushed_next s) ∙ omega arith
-
 pub pushed-only : (n : ℕ) (s : Sounding)
     → pushed_on n s ≡ record { voice = with_brr s.voice (pushed_on n s).voice.history (with_nibble s.voice.brr (index s + n)); endx = s.endx }
 unfolding pushed_on pushed

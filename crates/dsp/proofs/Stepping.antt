@@ -9,7 +9,6 @@ use native.Mathlib.Nat.{mod-eq_of_lt}
 use native.Mathlib.Omega.{arith}
 use lib.IntN.{ℤ}
 use lib.ListN.{get_or, set, length}
-use borrow.Rule.Slice.PartMut.{mid_of, put_mid}
 use Rattle.numbers.specs.Bits.{bit}
 use Rattle.numbers.specs.Choice.{◌=?◌}
 use Rattle.dsp.specs.Fit.{FitAdsr, FitVoice}
@@ -32,7 +31,6 @@ use Rattle.dsp.proofs.Pitch.{seven}
 use Rattle.dsp.proofs.Plays.{Low, low}
 use Rattle.dsp.proofs.Samples.{once_of, tick_once}
 use Rattle.dsp.proofs.Steps.{Ticks}
-use Rattle.dsp.proofs.Store.{part_span, samples-length}
 use Rattle.dsp.proofs.Turning.{polled_at, wait_at, Stands, Waited, Polled, in_its_block, past_its_block, skips, idles, sounds}
 
 -- a bit that was asked of voice v
@@ -71,12 +69,9 @@ pub record Advanced (w : Voice) (h : Envelope) (f : Feed) (samples : List ℤ) (
   pub rest_is : rest ≡ rest_left x s
 
 module _ {dials : List Dial} {c : Shared} {j : ℕ} {a₀ : Arrays} {delays₀ bytes₀ : List ℕ} {a : Arrays} {delays bytes : List ℕ} (q : Turn dials c j a₀ delays₀ bytes₀ a delays bytes) where
-  -- the samples of voice j, as the code takes them
+  -- the samples of voice j
   abbrev part : List ℤ
-  part = mid_of (j * 16) (j * 16 + 16 - j * 16) a.store
-
-  part_is : part ≡ samples_at j a.store
-  part_is = ap (λ (n : ℕ). mid_of (j * 16) n a.store) (part_span j)
+  part = samples_at j a.store
 
   pub behind_fit : FitVoice (voice_at dials a j)
   behind_fit = subst FitVoice (sym q.polled.stands.voice) (polled_keeps fits c j _ _ q.fit)
@@ -118,9 +113,9 @@ module _ {dials : List Dial} {c : Shared} {j : ℕ} {a₀ : Arrays} {delays₀ b
       advance p due rest {x} ef ex g =
           let w = voice_at dials a j in
           let f = get_or a.feeds j no_feed in
-          let B : List ℤ → PitchSource → Type 0 = λ (l : List ℤ) (y : PitchSource).
-          (let s = as_sounding w h (get_or a.plays j no_play) f l rising.endx in (as_sounding w h p f l rising.endx ≡ begun_of y s) × (due ≡ due_of y s) × (rest ≡ rest_left y s)) in
-          let r = subst (B (samples_at j a.store)) (ex ∙ ap (source_of c.pmon j) ef) (subst (λ (l : List ℤ). B l x) part_is (g w h f rising.endx refl refl)) in
+          let B : PitchSource → Type 0 = λ (y : PitchSource).
+          (let s = as_sounding w h (get_or a.plays j no_play) f part rising.endx in (as_sounding w h p f part rising.endx ≡ begun_of y s) × (due ≡ due_of y s) × (rest ≡ rest_left y s)) in
+          let r = subst B (ex ∙ ap (source_of c.pmon j) ef) (g w h f rising.endx refl refl) in
           record { begun = r.0; is_due = r.1; rest_is = r.2 }
 
       pub rest_low : {p : Play} {due : Bool} {rest : ℕ} → Advance p due rest → rest ≤ 7
@@ -135,19 +130,14 @@ module _ {dials : List Dial} {c : Shared} {j : ℕ} {a₀ : Arrays} {delays₀ b
         taken d = in_its_block dials c j a₀ delays₀ bytes₀ q.within q.sized ram prev a delays bytes q.waits q.bytes_sized q.polled h p g.begun (sym g.is_due ∙ d)
 
         -- behind a block change
-        pub taken_past : (k : Envelope) (r : Play) (z : Feed) (new : List ℤ) (end : List ℕ) → due ≡ true → length new ≡ length part
+        pub taken_past : (k : Envelope) (r : Play) (z : Feed) (new : List ℤ) (end : List ℕ) → due ≡ true
             → (let f = get_or a.feeds j no_feed in
             ((v : Voice) (endx : Bool) → as_sounding v k r z new (endx || z.block_end)
             ≡ gone_on (f.buffer_fill =? 0) rest (decoded_at ram (block_address ram c.dir (get_or bytes (j * 16 + 4) 0) (as_brr p f part)) (as_sounding v h p f part endx)))
             × (end ≡ (if z.block_end then put_endx j true bytes else bytes)))
-            → Taken (arrays (set (set a.envelopes j h) j k) (set (set a.plays j p) j r) (set a.feeds j z) a.currents (put_mid (j * 16) (j * 16 + 16 - j * 16) a.store new)) end
-        taken_past k r z new end d en y =
-            let w = voice_at dials a j in
-            let f = get_or a.feeds j no_feed in
-            let o : List ℤ → Sounding = λ (old : List ℤ). gone_on (f.buffer_fill =? 0) rest (decoded_at ram (block_address ram c.dir (get_or bytes (j * 16 + 4) 0) (as_brr p f old)) (as_sounding w h p f old rising.endx)) in
-            let long : length new ≡ 16 = en ∙ ap (λ (l : List ℤ). length l) part_is ∙ samples-length j a.store (omega (arith, q.polled.stands.sized.store)) in
-            rw (part_span j)
-            (past_its_block dials c j a₀ delays₀ bytes₀ q.within q.sized ram prev a delays bytes q.waits q.bytes_sized q.polled h p g.begun k r z new end rest long (sym g.is_due ∙ d) g.rest_is (y.0 w rising.endx ∙ ap o part_is) y.1)
+            → Taken (arrays (set (set a.envelopes j h) j k) (set (set a.plays j p) j r) (set a.feeds j z) a.currents (set a.store j new)) end
+        taken_past k r z new end d y =
+            past_its_block dials c j a₀ delays₀ bytes₀ q.within q.sized ram prev a delays bytes q.waits q.bytes_sized q.polled h p g.begun k r z new end rest (sym g.is_due ∙ d) g.rest_is (y.0 (voice_at dials a j) rising.endx) y.1
 
       module _ (t : Ticks (voice_at dials a j) (get_or a.envelopes j no_envelope) h) (b : Arrays) (bs : List ℕ) (s : Taken b bs) where
         pub taken_low : (get_or b.envelopes j no_envelope).level ≤ 0x800

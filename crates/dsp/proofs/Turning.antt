@@ -2,7 +2,7 @@
 -- stand for what the definition gives.
 use Rattle.std.proofs.Common.{if◌then◌else◌}
 use mathlib.Core.Bool.{Bool, true, false, ◌||◌}
-use mathlib.Core.List.{List}
+use mathlib.Core.List.{[], List}
 use mathlib.Core.Logic.{◌≢◌}
 use mathlib.Core.Path.{◌≡◌, refl, sym, ap, subst, ◌∙◌}
 use Prim.Native.Nat.{ℕ, ◌+◌, ◌-◌, ◌*◌, ◌/◌, ◌≤◌, ◌<◌}
@@ -35,7 +35,6 @@ use Rattle.dsp.specs.declared.voice.Voice.{Voice}
 use Rattle.dsp.proofs.Apart.{Arrays, arrays, Sized, voice_at, voices_from, voice-at, Beside, besides, beside_voices}
 use Rattle.dsp.proofs.Drives.{Lanes, lane_on}
 use Rattle.dsp.proofs.Samples.{once_of}
-use Rattle.dsp.proofs.Store.{store_length, samples_here, samples_there}
 use Rattle.dsp.proofs.Steps.{Ticks, idle-step, sounding-step, in_block, past_block}
 
 -- ---- the ENDX bit
@@ -272,25 +271,24 @@ module _ (dials : List Dial) (c : Shared) (j : ℕ) (a₀ : Arrays) (delays₀ b
             (in_block ram c.dir (get_or bytes₀ (j * 16 + 4) 0) source (ticking h) _ begun d)
 
         -- z: the block that follows, new: its samples
-        pub past_its_block : (k : Envelope) (r : Play) (z : Feed) (new : List ℤ) (bytes' : List ℕ) (rest : ℕ) → length new ≡ 16 → due_of source (ticking h) ≡ true → rest ≡ rest_left source (ticking h)
+        pub past_its_block : (k : Envelope) (r : Play) (z : Feed) (new : List ℤ) (bytes' : List ℕ) (rest : ℕ) → due_of source (ticking h) ≡ true → rest ≡ rest_left source (ticking h)
             → as_sounding (voice_at dials a j) k r z new (endx || z.block_end)
             ≡ gone_on ((get_or a.feeds j no_feed).buffer_fill =? 0) rest
             (decoded_at ram (block_address ram c.dir (get_or bytes (j * 16 + 4) 0) (as_brr p (get_or a.feeds j no_feed) (samples_at j a.store)))
             (as_sounding (voice_at dials a j) h p (get_or a.feeds j no_feed) (samples_at j a.store) endx))
             → bytes' ≡ (if z.block_end then put_endx j true bytes else bytes)
             → Stands dials j a₀ bytes₀ (once_of ram c.dir (get_or bytes₀ (j * 16 + 4) 0) source (ticking h))
-            (arrays (set took.envelopes j k) (set took.plays j r) (set took.feeds j z) took.currents (put_mid (j * 16) 16 took.store new)) bytes'
-        past_its_block k r z new bytes' rest ln d er ec eb =
+            (arrays (set took.envelopes j k) (set took.plays j r) (set took.feeds j z) took.currents (set took.store j new)) bytes'
+        past_its_block k r z new bytes' rest d er ec eb =
             let y = q.stands.sized in
-            let b = arrays (set took.envelopes j k) (set took.plays j r) (set took.feeds j z) took.currents (put_mid (j * 16) 16 took.store new) in
-            let room : j * 16 + 16 ≤ length a.store = omega (arith, y.store) in
+            let b = arrays (set took.envelopes j k) (set took.plays j r) (set took.feeds j z) took.currents (set took.store j new) in
             let le : length took.envelopes ≡ 8 = simp length-set y.envelopes in
             let lp : length took.plays ≡ 8 = simp length-set y.plays in
             let n = byte_there (j * 16 + 4) (λ (w : j * 16 + 4 ≡ 0x7C). omega arith) in
             stood b bytes' k r z new (endx || z.block_end) _
-            (record { envelopes = simp length-set y.envelopes; plays = simp length-set y.plays; feeds = simp length-set y.feeds; currents = y.currents; store = store_length j a.store new room ln ∙ y.store })
-            (besides dials j a b (λ m ne. get_or-set_other took.envelopes j m k no_envelope ne ∙ rose_beside m ne) (λ m ne. get_or-set_other took.plays j m r no_play ne ∙ took_beside m ne) (λ m ne. get_or-set_other a.feeds j m z no_feed ne) (λ m ne. refl) (λ m ne. samples_there j a.store new room ln m ne))
-            (get_or-set_same took.envelopes j k no_envelope (omega (arith, le))) (get_or-set_same took.plays j r no_play (omega (arith, lp))) (get_or-set_same a.feeds j z no_feed (omega (arith, y.feeds))) refl (samples_here j a.store new room ln)
+            (record { envelopes = simp length-set y.envelopes; plays = simp length-set y.plays; feeds = simp length-set y.feeds; currents = y.currents; store = simp length-set y.store })
+            (besides dials j a b (λ m ne. get_or-set_other took.envelopes j m k no_envelope ne ∙ rose_beside m ne) (λ m ne. get_or-set_other took.plays j m r no_play ne ∙ took_beside m ne) (λ m ne. get_or-set_other a.feeds j m z no_feed ne) (λ m ne. refl) (λ m ne. get_or-set_other a.store j m new [] ne))
+            (get_or-set_same took.envelopes j k no_envelope (omega (arith, le))) (get_or-set_same took.plays j r no_play (omega (arith, lp))) (get_or-set_same a.feeds j z no_feed (omega (arith, y.feeds))) refl (get_or-set_same a.store j new [] (omega (arith, y.store)))
             (eb ∙ ap (λ (l : List ℕ). if z.block_end then put_endx j true l else l) q.stands.bytes_are ∙ ended_endx j z.block_end endx bytes₀ lb)
             (past_block ram c.dir (get_or bytes₀ (j * 16 + 4) 0) source (ticking h) _ begun rest _ d er
             (ec ∙ ap (λ (m : ℕ). gone_on ((get_or a.feeds j no_feed).buffer_fill =? 0) rest

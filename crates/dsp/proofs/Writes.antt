@@ -13,7 +13,7 @@ use Rattle.numbers.specs.Choice.{◌=?◌, ◌≤?◌}
 use Rattle.numbers.specs.Signed.{cut_z}
 use Rattle.numbers.proofs.Choice.{chosen}
 use Rattle.numbers.proofs.Bits.{top_bit}
-use Rattle.dsp.specs.Machine.{no_voice, globals_of, together, Globals}
+use Rattle.dsp.specs.Machine.{no_voice, globals_of, together}
 use Rattle.dsp.specs.Keys.{silenced}
 use Rattle.dsp.specs.Registers.{at, write_voice, resets, globals_after, endx_write, taps_after, write_parts, write_at}
 use Rattle.dsp.specs.Inside.{with_globals}
@@ -30,7 +30,7 @@ abbrev has : List ℕ → ℕ → Bool
 has [] r = false
 has (q ∷ rs) r = q =? r || has rs r
 
-pub none_eqb : (rs : List ℕ) (i : ℕ) → NoneOf rs i → (r : ℕ) → has rs r ≡ true → eqb i r ≡ false
+none_eqb : (rs : List ℕ) (i : ℕ) → NoneOf rs i → (r : ℕ) → has rs r ≡ true → eqb i r ≡ false
 none_eqb [] i h r t = cc
 none_eqb (q ∷ rs) i h r t =
     elim (ℕ_discrete q r) [
@@ -43,9 +43,6 @@ none_eqb (q ∷ rs) i h r t =
 -- the registers that stand for one of them, last first as the code lists them
 abbrev pub globals : List ℕ
 globals = 0x6C ∷ 0x7D ∷ 0x6D ∷ 0x4D ∷ 0x0D ∷ 0x3C ∷ 0x2C ∷ 0x2D ∷ 0x3D ∷ 0x5D ∷ 0x1C ∷ 0x0C ∷ 0x4C ∷ []
-
-pub glob_kept : (i x : ℕ) (g : Globals) → NoneOf globals i → globals_after i x g ≡ g
-glob_kept i x g h = let e = none_eqb globals i h in simp e
 
 -- RESET, as the code tests it
 pub reset_tested : (i x : ℕ) → x < 256 → resets i x ≡ ((i =? 0x6C) && (0x80 ≤? x))

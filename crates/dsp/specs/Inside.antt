@@ -1,13 +1,13 @@
 -- How the contracts of inner functions read the code's structs, into the records of the definitions, and what the code does at once that
 -- the definitions do one by one. Contracts and proofs alone cite this file; no definition does, so that none moves when the inside does.
-use Rattle.std.specs.Prelude.{Bool, false, ◌||◌, List, [], ◌∷◌, ◌≡◌, ℕ, zero, suc, ◌+◌, ◌-◌, ◌*◌, ◌%◌, ℤ, pos, length, get_or, take, drop, if◌then◌else◌}
+use Rattle.std.specs.Prelude.{Bool, false, Option, None, Some, ◌||◌, List, [], ◌∷◌, ◌≡◌, ℕ, zero, suc, ◌+◌, ◌-◌, ◌*◌, ◌%◌, ℤ, pos, length, get_or, if◌then◌else◌}
 use Rattle.numbers.specs.Choice.{◌≤?◌, ◌=?◌}
 use Rattle.numbers.specs.Listed.{listed}
 use Rattle.numbers.specs.Unsigned.{least}
 use Rattle.sound.specs.Clock.{period_of}
 use Rattle.chip_log.specs.Log.{decode}
 use Rattle.chip_log.specs.Measure.{total_of}
-use Rattle.chip_log.specs.declared.Measured.{Measured}
+use Rattle.chip_log.specs.Measure.{Measured}
 use Rattle.dsp.specs.Noise.{Noise}
 use Rattle.dsp.specs.Machine.{Globals, Parts, together}
 use Rattle.dsp.specs.With.{with_state, moved, with_position}
@@ -29,8 +29,6 @@ use Rattle.dsp.specs.declared.mix.Stereo.{Stereo as Sides}
 use Rattle.dsp.specs.declared.noise.Noise.{Noise as Register}
 use Rattle.dsp.specs.declared.play.Play.{Play}
 use Rattle.dsp.specs.declared.play.Feed.{Feed}
-use Rattle.dsp.specs.declared.play.Source.{Source}
-use Rattle.dsp.specs.declared.play.Source.TheVariants.{Unmodulated, From}
 use Rattle.dsp.specs.declared.registers.Dsp.{Dsp}
 use Rattle.dsp.specs.declared.registers.Glob.{Glob}
 use Rattle.dsp.specs.declared.tick.Moving.{Moving}
@@ -165,9 +163,9 @@ as_sounding v e p f samples endx =
 abbrev pub as_decoded : Block → List ℤ → DecodedBlock
 as_decoded b samples = record { samples = samples; prev1 = b.prev1; prev2 = b.prev2; end = b.end; loops = b.loops }
 
-abbrev pub as_source : Source → PitchSource
-as_source Unmodulated = plain
-as_source (From x) = modulated_by x
+abbrev pub as_source : Option ℤ → PitchSource
+as_source None = plain
+as_source (Some x) = modulated_by x
 
 -- ---- the samples of a tick at once: at most seven are taken, so that the block changes once at most
 
@@ -305,18 +303,18 @@ no_settings =
 abbrev pub no_dial : Dial
 no_dial = record { left_vol = pos 0; right_vol = pos 0; pitch = 0; srcn = 0; settings = no_settings }
 
--- voice j's part of the store
-abbrev pub samples_at : ℕ → List ℤ → List ℤ
-samples_at j store = take 16 (drop (j * 16) store)
+-- voice j's samples in the store
+abbrev pub samples_at : ℕ → List (List ℤ) → List ℤ
+samples_at j store = get_or store j []
 
 -- the voices that the arrays stand for
-unfoldable pub voices_in : List Dial → List Envelope → List Play → List Feed → List ℤ → List ℤ → List Voice
+unfoldable pub voices_in : List Dial → List Envelope → List Play → List Feed → List ℤ → List (List ℤ) → List Voice
 voices_in dials envelopes plays feeds currents store =
     listed
     (λ j.
     as_voice (get_or dials j no_dial) (get_or envelopes j no_envelope) (get_or plays j no_play) (get_or feeds j no_feed) (get_or currents j (pos 0)) (samples_at j store)) 8
 
-abbrev pub parts_in : Moving → List Dial → List ℤ → List ℤ → List ℕ → List ℤ → List ℕ → Parts
+abbrev pub parts_in : Moving → List Dial → List ℤ → List ℤ → List ℕ → List (List ℤ) → List ℕ → Parts
 parts_in m dials taps currents delays store bytes =
     record {
       registers = bytes;

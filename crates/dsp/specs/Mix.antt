@@ -1,5 +1,5 @@
 -- Outputs and sums: what a voice gives, the dry sum, and the stereo sample.
-use Rattle.std.specs.Prelude.{◌||◌, List, ℕ, ℤ, pos, if◌then◌else◌}
+use Rattle.std.specs.Prelude.{◌||◌, List, ℕ, ℤ, pos, Result, Ok, Err, if◌then◌else◌}
 use Rattle.numbers.specs.Bits.{bit}
 use Rattle.sound.specs.Sound.{levelled_z, summed, mastered}
 use Rattle.numbers.specs.Listed.{folded}
@@ -9,6 +9,9 @@ use Rattle.dsp.specs.Fit.{fit}
 use Rattle.dsp.specs.declared.adsr.EnvelopePhase.{EnvelopePhase}
 use Rattle.dsp.specs.declared.voice.Voice.{Voice}
 use Rattle.dsp.specs.declared.registers.Dsp.{Dsp}
+use Rattle.dsp.specs.declared.mix.Sample.{Sample}
+use Rattle.refusal.specs.Refusal.{number}
+use Rattle.refusal.specs.declared.Refusal.{Refusal}
 
 -- scaled output: sample × level >> 11, or 0 in phase Off
 unfoldable pub scaled_output : EnvelopePhase → ℕ → ℤ → ℤ
@@ -53,6 +56,11 @@ pub record Rendered : Type 0 where
   pub refusal : ℕ
   pub left : ℤ
   pub right : ℤ
+
+-- an answer of `render_audio_single`, in these words
+abbrev pub rendered : Result Sample Refusal → Rendered
+rendered (Ok s) = record { refusal = 0; left = s.left; right = s.right }
+rendered (Err r) = record { refusal = number r; left = pos 0; right = pos 0 }
 
 unfoldable pub render_of : Dsp → Rendered
 render_of d =

@@ -1,14 +1,17 @@
 -- A run of a log from a record: its refusals in their order, and what it leaves (document 01, "Refusal numbers", "Log, sheet, program").
-use Rattle.std.specs.Prelude.{◌&&◌, List, ℕ, ◌*◌, length, if◌then◌else◌}
+use Rattle.std.specs.Prelude.{◌&&◌, List, ℕ, ◌*◌, length, Result, Ok, Err, if◌then◌else◌}
 use Rattle.numbers.specs.Choice.{◌=?◌}
 use Rattle.dsp.specs.Machine.{together}
 use Rattle.dsp.specs.Fit.{fit}
 use Rattle.dsp.specs.Tick.{everything}
 use Rattle.dsp.specs.declared.registers.Dsp.{Dsp}
 use Rattle.dsp.specs.declared.tick.Work.{Work}
+use Rattle.dsp.specs.declared.run.Ran.{Ran}
+use Rattle.refusal.specs.Refusal.{number}
+use Rattle.refusal.specs.declared.Refused.{Refused}
 use Rattle.chip_log.specs.Log.{decode}
 use Rattle.chip_log.specs.Measure.{measure_of}
-use Rattle.chip_log.specs.declared.Measured.{Measured}
+use Rattle.chip_log.specs.Measure.{Measured}
 use Rattle.dsp.specs.Play.{Run, play_all, starting}
 
 -- what a call leaves: its answer, and the lent slices
@@ -26,6 +29,12 @@ pub record Outcome : Type 0 where
 abbrev pub unrun : ℕ → Dsp → List ℕ → List ℕ → List ℕ → List ℕ → Outcome
 unrun k d ram pcm sheet readings =
     record { refusal = k; dsp = d; ticks = 0; count = 0; ram = ram; pcm = pcm; sheet = sheet; readings = readings }
+
+-- an answer of a run, with what it leaves in the lent slices, in these words
+abbrev pub outcome : Result Ran (Refused Dsp) → List ℕ → List ℕ → List ℕ → List ℕ → Outcome
+outcome (Ok r) ram pcm sheet readings =
+    record { refusal = 0; dsp = r.dsp; ticks = r.ticks; count = r.readings; ram = ram; pcm = pcm; sheet = sheet; readings = readings }
+outcome (Err e) ram pcm sheet readings = unrun (number e.refusal) e.given ram pcm sheet readings
 
 abbrev pub ran : Measured → Run → Outcome
 ran m s =

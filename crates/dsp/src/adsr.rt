@@ -1,7 +1,7 @@
 // The envelope of a voice: ADSR and GAIN. The settings, which only register writes change, stand apart from
 // the state that a tick moves.
 ghost use Rattle.std.specs.Prelude.{not, ◌&&◌, ◌≡◌, ℕ, ◌≤◌, ◌<◌};
-ghost use Rattle.sound.specs.Clock.{periods, period_of};
+ghost use Rattle.sound.specs.Clock.{period_of};
 ghost use Rattle.dsp.specs.Clock.{fires, counted_on};
 ghost use Rattle.dsp.specs.PowerOn.{new_adsr};
 ghost use Rattle.dsp.specs.Fit.{adsr_rule, meets, FitAdsr};
@@ -15,7 +15,7 @@ ghost use Rattle.dsp.specs.declared.adsr.Settings.{Settings};
 
 use crate::mix::scaled_output;
 
-#[derive(Clone, Copy)]
+#[derive(Clone, Copy, PartialEq, Eq)]
 pub enum EnvelopePhase {
     Attack,
     Decay,
@@ -25,7 +25,7 @@ pub enum EnvelopePhase {
 }
 
 // The envelope of a voice as the Rust has it: the settings and the state together.
-#[derive(Clone, Copy)]
+#[derive(Clone, Copy, PartialEq, Eq)]
 pub struct Adsr {
     pub adsr_mode: bool,
     pub gain_param: u8,
@@ -39,7 +39,7 @@ pub struct Adsr {
 }
 
 // The settings, with the tick period that each of its rates stands for.
-#[derive(Clone, Copy)]
+#[derive(Clone, Copy, PartialEq, Eq)]
 pub struct Settings {
     pub adsr_mode: bool,
     pub gain_param: u8,
@@ -53,7 +53,7 @@ pub struct Settings {
     pub gain_period: u16,
 }
 
-#[derive(Clone, Copy)]
+#[derive(Clone, Copy, PartialEq, Eq)]
 pub struct Envelope {
     pub level: u16,
     pub phase: EnvelopePhase,
@@ -61,7 +61,7 @@ pub struct Envelope {
 }
 
 // A counter after a tick, and whether its step is due.
-#[derive(Clone, Copy)]
+#[derive(Clone, Copy, PartialEq, Eq)]
 pub struct Tick {
     pub counter: u16,
     pub due: bool,
@@ -84,6 +84,7 @@ impl Adsr {
         }
     }
 
+    #[tactic(auto, unfolding(numbers::specs::Listed::all))]
     pub(crate) fn is_fit(self) -> bool
         ensures { result ≡ meets (adsr_rule self) }
     {
@@ -96,15 +97,7 @@ impl Adsr {
     }
 }
 
-// The period of an entry of the table; entry 0 never fires.
-pub(crate) fn period_of(rates: &[u16], entry: u8) -> u16
-    requires { (rates.now ≡ periods) × (entry < 32) }
-    ensures { result ≡ period_of entry }
-{
-    let i = entry as usize;
-    rates[i]
-}
-
+#[tactic(auto, unfolding(crate::specs::Clock::fires, crate::specs::Clock::counted_on))]
 pub(crate) fn tick_due(counter: u16, period: u16) -> Tick
     requires { counter ≤ 2047 }
     ensures { (entry : ℕ) → period_of entry ≡ period → (result.counter ≡ counted_on counter entry) × (result.due ≡ fires counter entry) }
@@ -309,6 +302,7 @@ impl Envelope {
         }
     }
 
+    #[tactic(auto, unfolding(crate::specs::Envelope::release_tick))]
     fn release(self) -> Self
         ensures { (s : Settings) → as_adsr s result ≡ release_tick (as_adsr s self) }
     {
@@ -335,6 +329,7 @@ impl Envelope {
     }
 
     // Advance the envelope by one tick.
+    #[tactic(auto, unfolding(crate::specs::Envelope::envelope_tick, crate::specs::Envelope::phase_tick))]
     pub(crate) fn update_envelope(self, s: Settings) -> Self
         requires { Wound s × FitAdsr (as_adsr s self) }
         ensures { as_adsr s result ≡ envelope_tick (as_adsr s self) }

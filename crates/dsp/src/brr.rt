@@ -7,7 +7,7 @@ ghost use Rattle.dsp.specs.Brr.{sample_of, decode_block};
 ghost use Rattle.dsp.specs.Inside.{as_decoded};
 
 // BRR playback state of one voice.
-#[derive(Clone, Copy)]
+#[derive(Clone, Copy, PartialEq, Eq)]
 pub struct Brr {
     pub addr: u16,
     pub nibble_idx: u8,
@@ -33,6 +33,7 @@ impl Brr {
         }
     }
 
+    #[tactic(auto, unfolding(numbers::specs::Listed::all))]
     pub(crate) fn is_fit(self) -> bool
         ensures { result ≡ meets (brr_rule self) }
     {
@@ -41,7 +42,7 @@ impl Brr {
 }
 
 // What a block leaves beside its samples: the two newest and the flags of its header.
-#[derive(Clone, Copy)]
+#[derive(Clone, Copy, PartialEq, Eq)]
 pub struct Block {
     pub prev1: i16,
     pub prev2: i16,
@@ -50,6 +51,7 @@ pub struct Block {
 }
 
 // The byte at an address and an offset; the sum wraps at 65,536.
+#[tactic(auto, unfolding(crate::specs::Ram::byte_at))]
 pub(crate) fn ram_read8(ram: &[u8], addr: u16, offset: u16) -> u8
     requires { length ram.now ≡ 0x10000 }
     ensures { result ≡ byte_at ram.now (addr + offset) }
@@ -59,6 +61,7 @@ pub(crate) fn ram_read8(ram: &[u8], addr: u16, offset: u16) -> u8
 }
 
 // A 16-bit pointer, low byte first.
+#[tactic(auto, unfolding(crate::specs::Ram::word_at))]
 pub(crate) fn read_le16(ram: &[u8], addr: u16, offset: u16) -> u16
     requires { (length ram.now ≡ 0x10000) × (offset < 0xFFFF) }
     ensures { result ≡ word_at ram.now (addr + offset) }
@@ -69,6 +72,7 @@ pub(crate) fn read_le16(ram: &[u8], addr: u16, offset: u16) -> u16
 }
 
 // One nibble of a block, under its header. The nibble is sign-extended where it is decoded.
+#[tactic(auto, unfolding(crate::specs::Brr::sample_of))]
 fn sample_of(header: u8, nibble: u8, prev1: i16, prev2: i16) -> i16
     requires { nibble < 16 }
     ensures { result ≡ sample_of header nibble prev1 prev2 }
@@ -82,16 +86,15 @@ pub(crate) fn decode_brr_block(
     addr: u16,
     prev1: i16,
     prev2: i16,
-    samples: &mut [i16],
+    samples: &mut [i16; 16],
 ) -> Block
-    requires { (length ram.now ≡ 0x10000) × (length samples.old ≡ 16) }
+    requires { length ram.now ≡ 0x10000 }
     ensures { as_decoded result samples.new ≡ decode_block ram.now addr prev1 prev2 }
 {
     let header = ram_read8(ram, addr, 0);
     let mut p1 = prev1;
     let mut p2 = prev2;
-    let mut i: usize = 0;
-    while i < 8 {
+    for i in 0..8 {
         let byte = ram_read8(ram, addr, 1 + i as u16);
         let s0 = sample_of(header, byte / 16, p1, p2);
         samples[i * 2] = s0;
@@ -99,7 +102,6 @@ pub(crate) fn decode_brr_block(
         samples[i * 2 + 1] = s1;
         p2 = s0;
         p1 = s1;
-        i += 1;
     }
     Block {
         prev1: p1,

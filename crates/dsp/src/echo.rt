@@ -39,6 +39,7 @@ impl Glob {
         sound::joined(lo, hi)
     }
 
+    #[tactic(auto, unfolding(crate::specs::Ram::stored_from, crate::specs::Sheet::pair_bytes))]
     fn store_echo(self, ram: &mut [u8], l: i16, r: i16)
         requires { length ram.old ≡ 0x10000 }
         ensures { ram.new ≡ stored_from (echo_base (as_globals self)) (pair_bytes l r) ram.old }
@@ -54,6 +55,7 @@ impl Glob {
         ram[d] = numbers::high(r);
     }
 
+    #[tactic(auto, unfolding(crate::specs::Echo::echo_written))]
     fn write_echo(self, ram: &mut [u8], l: i16, r: i16)
         requires { length ram.old ≡ 0x10000 }
         ensures { ram.new ≡ echo_written (as_globals self) ram.old l r }
@@ -63,6 +65,7 @@ impl Glob {
         }
     }
 
+    #[tactic(auto, unfolding(crate::specs::Echo::length_now))]
     fn length_now(self) -> u16
         requires { FitGlobals (as_globals self) }
         ensures { result ≡ length_now (as_globals self) }
@@ -74,6 +77,7 @@ impl Glob {
         }
     }
 
+    #[tactic(auto, unfolding(crate::specs::Echo::pointer_next))]
     fn pointer_next(self) -> u16
         requires { FitGlobals (as_globals self) }
         ensures { result ≡ pointer_next (as_globals self) }
@@ -82,6 +86,7 @@ impl Glob {
         if self.length_now() <= next { 0 } else { next }
     }
 
+    #[tactic(auto, unfolding(crate::specs::Echo::echo_moved))]
     fn echo_moved(mut self, l: i16, r: i16) -> Self
         requires { FitGlobals (as_globals self) }
         ensures { as_globals result ≡ echo_moved (as_globals self) l r }
@@ -125,6 +130,7 @@ impl Glob {
     }
 
     // The sheet's echo output in the place of the record's.
+    #[tactic(auto, unfolding(crate::specs::Echo::echo_from))]
     fn echo_from(mut self, slot: &[u8]) -> Self
         requires { length slot.now ≡ 4 }
         ensures { as_globals result ≡ echo_from slot.now (as_globals self) }
@@ -135,6 +141,7 @@ impl Glob {
     }
 
     // The echo for one tick: worked, and then on the sheet; or shown from the sheet.
+    #[tactic(auto, unfolding(crate::specs::Echo::echo_lane))]
     pub(crate) fn echo_lane(
         self,
         worked: bool,

@@ -3,7 +3,6 @@ ghost use Rattle.std.specs.Prelude.{Bool, true, false, ◌||◌, List, ◌≡◌
 ghost use Rattle.numbers.specs.Bits.{bit};
 ghost use Rattle.numbers.specs.Choice.{◌=?◌};
 ghost use Rattle.numbers.specs.Signed.{high_z};
-ghost use Rattle.sound.specs.Clock.{periods};
 ghost use Rattle.sound.specs.Sound.{joined};
 ghost use Rattle.dsp.specs.Fit.{FitAdsr};
 ghost use Rattle.dsp.specs.With.{with_sample};
@@ -18,9 +17,10 @@ ghost use Rattle.dsp.specs.declared.play.Feed.{Feed};
 ghost use Rattle.dsp.specs.declared.play.Play.{Play};
 ghost use Rattle.dsp.specs.declared.voice.Voice.{Voice};
 
-use crate::adsr::{Adsr, Envelope, Settings, period_of};
+use crate::adsr::{Adsr, Envelope, Settings};
 use crate::brr::Brr;
-use crate::play::{Begun, Feed, Play, Source};
+use crate::play::{Begun, Feed, Play};
+use crate::rates::Rates;
 use crate::voice::Voice;
 use numbers::{bit, with_bit};
 
@@ -68,8 +68,8 @@ pub struct Turned {
 
 impl Dial {
     // Registers $j0 to $j7, by the low digit of their number.
-    pub(crate) fn write(mut self, rates: &[u16], off: u8, value: u8) -> Self
-        requires { (rates.now ≡ periods) × Wound self.settings }
+    pub(crate) fn write(mut self, rates: &Rates, off: u8, value: u8) -> Self
+        requires { Wound self.settings }
         ensures { ((e : Envelope) (p : Play) (f : Feed) (x : ℤ) (samples : List ℤ) → as_voice result e p f x samples ≡ write_voice off value (as_voice self e p f x samples)) × Wound result.settings }
     {
         match off {
@@ -82,8 +82,8 @@ impl Dial {
                 let on = value >= 0x80;
                 let decay = value / 16 % 8;
                 let attack = value % 16;
-                let a = period_of(rates, 2 * attack + 1);
-                let d = period_of(rates, 2 * decay + 16);
+                let a = rates.period_of(2 * attack + 1);
+                let d = rates.period_of(2 * decay + 16);
                 self.settings.adsr_mode = on;
                 self.settings.decay_rate = decay;
                 self.settings.attack_rate = attack;
@@ -93,13 +93,13 @@ impl Dial {
             6 => {
                 let level = value / 32;
                 let rate = value % 32;
-                let p = period_of(rates, rate);
+                let p = rates.period_of(rate);
                 self.settings.sustain_level = level;
                 self.settings.sustain_rate = rate;
                 self.settings.sustain_period = p;
             }
             7 => {
-                let p = period_of(rates, value % 32);
+                let p = rates.period_of(value % 32);
                 self.settings.gain_param = value;
                 self.settings.gain_period = p;
             }
@@ -110,8 +110,8 @@ impl Dial {
 }
 
 impl Voice {
-    fn settings(self, rates: &[u16]) -> Settings
-        requires { (rates.now ≡ periods) × FitAdsr self.adsr }
+    fn settings(self, rates: &Rates) -> Settings
+        requires { FitAdsr self.adsr }
         ensures { result ≡ settings_of self.adsr }
     {
         let a = self.adsr;
@@ -122,15 +122,15 @@ impl Voice {
             decay_rate: a.decay_rate,
             sustain_level: a.sustain_level,
             sustain_rate: a.sustain_rate,
-            attack_period: period_of(rates, 2 * a.attack_rate + 1),
-            decay_period: period_of(rates, 2 * a.decay_rate + 16),
-            sustain_period: period_of(rates, a.sustain_rate),
-            gain_period: period_of(rates, a.gain_param % 32),
+            attack_period: rates.period_of(2 * a.attack_rate + 1),
+            decay_period: rates.period_of(2 * a.decay_rate + 16),
+            sustain_period: rates.period_of(a.sustain_rate),
+            gain_period: rates.period_of(a.gain_param % 32),
         }
     }
 
-    pub(crate) fn dial(self, rates: &[u16]) -> Dial
-        requires { (rates.now ≡ periods) × FitAdsr self.adsr }
+    pub(crate) fn dial(self, rates: &Rates) -> Dial
+        requires { FitAdsr self.adsr }
         ensures { result ≡ dial_of self }
     {
         let s = self.settings(rates);
@@ -234,28 +234,17 @@ impl Dial {
     }
 }
 
-impl Brr {
-    pub(crate) fn samples(self) -> [i16; 16]
-        ensures { result ≡ self.sample_buffer }
-    {
-        self.sample_buffer
-    }
-}
-
-pub(crate) fn source_of(pmon: u8, j: usize, prev: i16) -> Source
+// The pitch source: what the voice before it gave, or none.
+pub(crate) fn source_of(pmon: u8, j: usize, prev: i16) -> Option<i16>
     requires { j < 8 }
     ensures { as_source result ≡ source_of pmon j prev }
 {
-    if bit(pmon, j) {
-        Source::From(prev)
-    } else {
-        Source::Unmodulated
-    }
+    bit(pmon, j).then_some(prev)
 }
 
 // The ENDX bit of voice j.
-pub(crate) fn put_endx(bytes: &mut [u8], j: usize, on: bool)
-    requires { (length bytes.old ≡ 128) × (j < 8) }
+pub(crate) fn put_endx(bytes: &mut [u8; 128], j: usize, on: bool)
+    requires { (j < 8) }
     ensures { bytes.new ≡ put_endx j on bytes.old }
 {
     let old = bytes[0x7C];
@@ -330,10 +319,10 @@ pub(crate) fn closed(
     c: Shared,
     j: usize,
     acc: Acc,
-    bytes: &mut [u8],
+    bytes: &mut [u8; 128],
     slot: &mut [u8],
 ) -> Acc
-    requires { (length bytes.old ≡ 128) × (length slot.old ≡ 4) × (j < 8) }
+    requires { (length slot.old ≡ 4) × (j < 8) }
     ensures { (bytes.new ≡ set bytes.old (j * 16 + 9) (high_z out)) × (slot.new ≡ lane_bytes out (get_or bytes.old (j * 16 + 8) 0) (bit (get_or bytes.old 0x7C 0) j)) × (as_sums result ≡ added (bit (as_shared c).eon j) out d.left_vol d.right_vol (as_sums acc)) }
 {
     let envx = bytes[j * 16 + 8];
@@ -343,8 +332,15 @@ pub(crate) fn closed(
 }
 
 // A voice that is not stepped: its lane of the sheet says what it gives.
-pub(crate) fn shown(d: Dial, c: Shared, j: usize, acc: Acc, bytes: &mut [u8], slot: &[u8]) -> Acc
-    requires { (length bytes.old ≡ 128) × (length slot.now ≡ 4) × (j < 8) }
+pub(crate) fn shown(
+    d: Dial,
+    c: Shared,
+    j: usize,
+    acc: Acc,
+    bytes: &mut [u8; 128],
+    slot: &[u8],
+) -> Acc
+    requires { (length slot.now ≡ 4) × (j < 8) }
     ensures { (bytes.new ≡ put_bytes j (get_or slot.now 2 0) (joined (get_or slot.now 0 0) (get_or slot.now 1 0)) (get_or slot.now 3 0 % 2 =? 1) bytes.old) × (as_sums result ≡ added (bit (as_shared c).eon j) (joined (get_or slot.now 0 0) (get_or slot.now 1 0)) d.left_vol d.right_vol (as_sums acc)) }
 {
     let out = sound::joined(slot[0], slot[1]);
@@ -362,11 +358,11 @@ impl Turned {
         c: Shared,
         j: usize,
         srcn: u8,
-        currents: &mut [i16],
-        delays: &mut [u8],
-        bytes: &mut [u8],
+        currents: &mut [i16; 8],
+        delays: &mut [u8; 8],
+        bytes: &mut [u8; 128],
     ) -> Self
-        requires { (length currents.old ≡ 8) × (length delays.old ≡ 8) × (length bytes.old ≡ 128) × (j < 8) × ((bit c.koff j || bit c.kon j) ≡ true) }
+        requires { (j < 8) × ((bit c.koff j || bit c.kon j) ≡ true) }
         ensures { ((v : Voice) (samples : List ℤ) (endx : Bool) → v.srcn ≡ srcn → as_sounding (with_sample v (get_or currents.new j (pos 0))) result.envelope result.play result.feed samples (if bit c.kon j then false else endx) ≡ polled_of (as_shared c) j (as_sounding (with_sample v (get_or currents.old j (pos 0))) self.envelope self.play self.feed samples endx).voice endx) × (currents.new ≡ (if bit c.kon j then set currents.old j (pos 0) else currents.old)) × (delays.new ≡ set delays.old j (polled_delay (bit c.kon j) (get_or delays.old j 0))) × (bytes.new ≡ (if bit c.kon j then put_endx j false bytes.old else bytes.old)) }
     {
         let e = self.envelope;
@@ -407,10 +403,10 @@ impl Begun {
         c: Shared,
         j: usize,
         ram: &[u8],
-        samples: &mut [i16],
-        bytes: &mut [u8],
+        samples: &mut [i16; 16],
+        bytes: &mut [u8; 128],
     ) -> Turned
-        requires { (length ram.now ≡ 0x10000) × (length samples.old ≡ 16) × (length bytes.old ≡ 128) × (j < 8) × (self.rest ≤ 7) }
+        requires { (length ram.now ≡ 0x10000) × (j < 8) × (self.rest ≤ 7) }
         ensures { ((v : Voice) (endx : Bool) → as_sounding v result.envelope result.play result.feed samples.new (endx || result.feed.block_end) ≡ gone_on (f.buffer_fill =? 0) self.rest (decoded_at ram.now (block_address ram.now c.dir (get_or bytes.old (j * 16 + 4) 0) (as_brr self.play f samples.old)) (as_sounding v e self.play f samples.old endx))) × (bytes.new ≡ (if result.feed.block_end then put_endx j true bytes.old else bytes.old)) }
     {
         let z = f.next_block(ram, samples, c.dir, bytes[j * 16 + 4]);

@@ -1,29 +1,29 @@
 // Outputs and sums: what a voice gives, the dry sum, and the stereo sample.
 ghost use Rattle.std.specs.Prelude.{◌≡◌, ℕ, ◌≤◌, get_or};
 ghost use Rattle.dsp.specs.Machine.{no_voice};
-ghost use Rattle.dsp.specs.Mix.{scaled_output, with_voice, dry_of, master_of, Rendered, render_of};
+ghost use Rattle.dsp.specs.Mix.{scaled_output, with_voice, dry_of, master_of, rendered, render_of};
 ghost use Rattle.dsp.specs.Inside.{as_stereo, as_globals};
 
 use crate::adsr::{EnvelopePhase, is_off};
 use crate::registers::{Dsp, Glob};
 use crate::voice::Voice;
 use numbers::bit;
+use refusal::Refusal;
 
-#[derive(Clone, Copy)]
+#[derive(Clone, Copy, PartialEq, Eq)]
 pub struct Stereo {
     pub l: i16,
     pub r: i16,
 }
 
-// What render_audio_single answers: 0 or the refusal, and the sample.
-#[derive(Clone, Copy)]
+#[derive(Clone, Copy, PartialEq, Eq)]
 pub struct Sample {
-    pub refusal: u8,
     pub left: i16,
     pub right: i16,
 }
 
 // Post-envelope output before volume. A level of at most $800 keeps it to 16 bits.
+#[tactic(auto, unfolding(crate::specs::Mix::scaled_output))]
 pub(crate) fn scaled_output(phase: EnvelopePhase, level: u16, sample: i16) -> i16
     requires { level ≤ 0x800 }
     ensures { result ≡ scaled_output phase level sample }
@@ -37,6 +37,7 @@ pub(crate) fn scaled_output(phase: EnvelopePhase, level: u16, sample: i16) -> i1
 
 impl Stereo {
     // An output by a voice's volumes, added to both sums, which saturate.
+    #[tactic(auto, unfolding(crate::specs::Mix::with_voice))]
     pub(crate) fn with_voice(self, out: i16, left: i8, right: i8) -> Self
         ensures { as_stereo result ≡ with_voice out left right (as_stereo self) }
     {
@@ -53,20 +54,18 @@ pub(crate) fn dry(voices: [Voice; 8]) -> Stereo
     ensures { as_stereo result ≡ dry_of voices }
 {
     let mut s = Stereo { l: 0, r: 0 };
-    let mut n: usize = 0;
-    while n < 8 {
-        let v = voices[n];
+    for v in voices {
         let a = v.adsr;
         let phase = a.envelope_phase;
         let out = scaled_output(phase, a.envelope_level, v.current_sample);
         s = s.with_voice(out, v.left_vol, v.right_vol);
-        n += 1;
     }
     s
 }
 
 impl Glob {
     // MUTE and RESET silence the last stage only.
+    #[tactic(auto, unfolding(crate::specs::Mix::master_of))]
     pub(crate) fn mastered(self, dry: Stereo) -> Stereo
         ensures { as_stereo result ≡ master_of (as_globals self) (as_stereo dry) }
     {
@@ -92,24 +91,17 @@ impl Glob {
 
 impl Dsp {
     // The stereo sample of the record as it stands. Refuses 2.
-    pub fn render_audio_single(self) -> Sample
-        ensures { ◌≡◌ {A = Rendered} (record { refusal = result.refusal; left = result.left; right = result.right }) (render_of self) }
+    #[tactic(auto, unfolding(crate::specs::Mix::render_of))]
+    pub fn render_audio_single(self) -> Result<Sample, Refusal>
+        ensures { rendered result ≡ render_of self }
     {
-        if self.is_fit() {
-            let voices = self.voices;
-            let g = self.glob();
-            let s = g.mastered(dry(voices));
-            Sample {
-                refusal: 0,
-                left: s.l,
-                right: s.r,
-            }
-        } else {
-            Sample {
-                refusal: 2,
-                left: 0,
-                right: 0,
-            }
+        if !self.is_fit() {
+            return Err(Refusal::Unfit);
         }
+        let s = self.glob().mastered(dry(self.voices));
+        Ok(Sample {
+            left: s.l,
+            right: s.r,
+        })
     }
 }

@@ -1,13 +1,13 @@
 // Noise: the 15-bit shift register that all voices share, and its clock.
 ghost use Rattle.std.specs.Prelude.{◌≡◌, ◌≤◌};
-ghost use Rattle.sound.specs.Clock.{periods};
 ghost use Rattle.dsp.specs.Noise.{noise_tick, noise_sample};
 ghost use Rattle.dsp.specs.Inside.{as_noise};
 
-use crate::adsr::{period_of, tick_due};
+use crate::adsr::tick_due;
+use crate::rates::Rates;
 
 // The Rust's noise_lfsr and noise_tick_counter.
-#[derive(Clone, Copy)]
+#[derive(Clone, Copy, PartialEq, Eq)]
 pub struct Noise {
     pub lfsr: u16,
     pub counter: u16,
@@ -15,11 +15,12 @@ pub struct Noise {
 
 impl Noise {
     // The Rust's advance_noise: FLG bits 4-0 are the rate.
-    pub(crate) fn advance(mut self, rates: &[u16], flg: u8) -> Self
-        requires { (rates.now ≡ periods) × (self.counter ≤ 2047) }
+    #[tactic(auto, unfolding(crate::specs::Noise::noise_tick))]
+    pub(crate) fn advance(mut self, rates: &Rates, flg: u8) -> Self
+        requires { (self.counter ≤ 2047) }
         ensures { as_noise result ≡ noise_tick flg (as_noise self) }
     {
-        let t = tick_due(self.counter, period_of(rates, flg % 32));
+        let t = tick_due(self.counter, rates.period_of(flg % 32));
         self.counter = t.counter;
         if t.due {
             self.lfsr = sound::shifted(self.lfsr);

@@ -2,7 +2,6 @@
 // samples of that block are lent.
 ghost use Rattle.std.specs.Prelude.{Bool, true, false, not, ◌&&◌, List, ◌≡◌, ◌+◌, ◌<◌, ◌≤◌, ℤ, pos, length, replicate};
 ghost use Rattle.numbers.specs.Unsigned.{wrapped};
-ghost use Rattle.sound.specs.Gauss.{weights};
 ghost use Rattle.dsp.specs.Interpolation.{interpolate_z};
 ghost use Rattle.dsp.specs.Ram.{entry_of};
 ghost use Rattle.dsp.specs.Brr.{decode_block};
@@ -14,14 +13,7 @@ ghost use Rattle.dsp.specs.declared.play.Play.{Play};
 ghost use Rattle.dsp.specs.declared.voice.Voice.{Voice};
 
 use crate::brr::{decode_brr_block, read_le16};
-use crate::gauss::interpolate;
-
-// The pitch source of this tick: none, or what the voice before it gave.
-#[derive(Clone, Copy)]
-pub enum Source {
-    Unmodulated,
-    From(i16),
-}
+use crate::gauss::Weights;
 
 // What moves in every tick that sounds: the position, the next sample of the block, and the four newest samples.
 #[derive(Clone, Copy)]
@@ -60,11 +52,12 @@ pub struct Begun {
     pub rest: u8,
 }
 
-fn pitch_of(base: u16, source: Source) -> u32
+// With what the voice before it gave in this tick, where that modulates it.
+fn pitch_of(base: u16, source: Option<i16>) -> u32
     ensures { (pos result ≡ pitch_of base (as_source source)) × (result < 0x20000) }
 {
     let b = base as i32;
-    if let Source::From(x) = source {
+    if let Some(x) = source {
         (b + ((((x >> 5) as i32) * b) >> 10)) as u32
     } else {
         base as u32
@@ -72,7 +65,8 @@ fn pitch_of(base: u16, source: Source) -> u32
 }
 
 // The position moved on by the pitch. The cap applies under strong modulation only.
-fn position_of(position: u16, pitch: u16, source: Source) -> u16
+#[tactic(auto, unfolding(crate::specs::Voice::position_of))]
+fn position_of(position: u16, pitch: u16, source: Option<i16>) -> u16
     ensures { (v : Voice) → v.pitch ≡ pitch → v.pitch_counter ≡ position → result ≡ position_of (as_source source) v }
 {
     let s = ((position % 0x4000) as u32) + pitch_of(pitch, source);
@@ -119,8 +113,8 @@ impl Feed {
         }
     }
 
-    pub(crate) fn next_block(self, ram: &[u8], samples: &mut [i16], dir: u8, srcn: u8) -> Fed
-        requires { (length ram.now ≡ 0x10000) × (length samples.old ≡ 16) }
+    pub(crate) fn next_block(self, ram: &[u8], samples: &mut [i16; 16], dir: u8, srcn: u8) -> Fed
+        requires { length ram.now ≡ 0x10000 }
         ensures { (p : Play) → let a = block_address ram.now dir srcn (as_brr p self samples.old) in let b = decode_block ram.now a self.prev1 self.prev2 in (p.nibble_idx ≡ 0 → as_brr p result.feed samples.new ≡ block_of a b) × (result.mutes ≡ (b.end && not b.loops)) }
     {
         let at = self.block_at(ram, dir, srcn);
@@ -169,22 +163,21 @@ impl Play {
     }
 
     // The next n samples of the block go into the history, oldest first.
-    fn heard(self, samples: &[i16], n: u8) -> Self
-        requires { (length samples.now ≡ 16) × (self.nibble_idx + n ≤ 16) }
+    fn heard(self, samples: &[i16; 16], n: u8) -> Self
+        requires { (self.nibble_idx + n ≤ 16) }
         ensures { (v : Voice) (e : Envelope) (f : Feed) (endx : Bool) → as_sounding v e result f samples.now endx ≡ pushed_on n (as_sounding v e self f samples.now endx) }
     {
         let mut a = self.oldest;
         let mut b = self.older;
         let mut c = self.newer;
         let mut d = self.newest;
-        let mut i = self.nibble_idx as usize;
-        let end = i + n as usize;
-        while i < end {
+        let from = self.nibble_idx as usize;
+        let end = from + n as usize;
+        for i in from..end {
             a = b;
             b = c;
             c = d;
             d = samples[i];
-            i += 1;
         }
         let k = end as u8;
         Play {
@@ -199,8 +192,14 @@ impl Play {
     }
 
     // Pitch, then the samples that the position passes. At most seven go in a tick, so that the block changes once at most.
-    pub(crate) fn advanced(self, samples: &[i16], fill: u8, pitch: u16, source: Source) -> Begun
-        requires { (length samples.now ≡ 16) × (self.nibble_idx ≤ 15) }
+    pub(crate) fn advanced(
+        self,
+        samples: &[i16; 16],
+        fill: u8,
+        pitch: u16,
+        source: Option<i16>,
+    ) -> Begun
+        requires { (self.nibble_idx ≤ 15) }
         ensures { (v : Voice) (e : Envelope) (f : Feed) (endx : Bool) → v.pitch ≡ pitch → f.buffer_fill ≡ fill → let s = as_sounding v e self f samples.now endx in (as_sounding v e result.play f samples.now endx ≡ begun_of (as_source source) s) × (result.due ≡ due_of (as_source source) s) × (result.rest ≡ rest_left (as_source source) s) }
     {
         let old = self.pitch_counter % 0x4000;
@@ -226,12 +225,10 @@ impl Play {
         }
     }
 
-    pub(crate) fn sounded(self, table: &[i16]) -> i16
-        requires { table.now ≡ weights }
+    pub(crate) fn sounded(self, table: &Weights) -> i16
         ensures { result ≡ interpolate_z self.pitch_counter (history_of self) }
     {
-        interpolate(
-            table,
+        table.interpolate(
             self.pitch_counter,
             [self.oldest, self.older, self.newer, self.newest],
         )
@@ -241,8 +238,8 @@ impl Play {
 impl Begun {
     // Behind a block change: it drops the tick's further samples where key_on is clear, in Release too; the first
     // block after key-on does not.
-    pub(crate) fn resumed(self, first: bool, mutes: bool, samples: &[i16]) -> Play
-        requires { (length samples.now ≡ 16) × (self.rest ≤ 7) }
+    pub(crate) fn resumed(self, first: bool, mutes: bool, samples: &[i16; 16]) -> Play
+        requires { (self.rest ≤ 7) }
         ensures { (q : Play) → q.key_on ≡ (self.play.key_on && not mutes) → q.nibble_idx ≡ 0 → q.pitch_counter ≡ self.play.pitch_counter → history_of q ≡ history_of self.play → (v : Voice) (e : Envelope) (f : Feed) (endx : Bool) → as_sounding v e result f samples.now endx ≡ gone_on first self.rest (as_sounding v e q f samples.now endx) }
     {
         let p = self.play;

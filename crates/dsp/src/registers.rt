@@ -6,11 +6,13 @@ ghost use Rattle.dsp.specs.Fit.{globals_rule, meets, fit};
 ghost use Rattle.dsp.specs.Keys.{silenced};
 ghost use Rattle.dsp.specs.Registers.{at, globals_after, endx_write, write_at, Written, write_of};
 ghost use Rattle.dsp.specs.Inside.{as_globals, with_globals};
+ghost use Rattle.refusal.specs.Refusal.{told, handed};
 
 use crate::noise::Noise;
 use crate::voice::Voice;
+use refusal::{Refusal, Refused};
 
-#[derive(Clone, Copy)]
+#[derive(Clone, Copy, PartialEq, Eq)]
 pub struct Dsp {
     pub registers: [u8; 128],
     pub voices: [Voice; 8],
@@ -41,7 +43,7 @@ pub struct Dsp {
 }
 
 // The record's numbers that belong to no voice and stand in no array.
-#[derive(Clone, Copy)]
+#[derive(Clone, Copy, PartialEq, Eq)]
 pub struct Glob {
     pub dir_base: u8,
     pub master_vol_left: i8,
@@ -64,14 +66,11 @@ pub struct Glob {
     pub echo_out_r: i16,
 }
 
-// What `write_reg`, `step` and `ticks` answer: 0 or the refusal, and the record, which a refused call hands back as it was given.
-#[derive(Clone, Copy)]
-pub struct Answer {
-    pub refusal: u8,
-    pub dsp: Dsp,
-}
+// What `write_reg`, `step` and `ticks` answer: the record, or the refusal, with the record as it was given.
+pub type Answer = Result<Dsp, Refused<Dsp>>;
 
 impl Glob {
+    #[tactic(auto, unfolding(numbers::specs::Listed::all))]
     pub(crate) fn is_fit(self) -> bool
         ensures { result ≡ meets (globals_rule (as_globals self)) }
     {
@@ -204,16 +203,10 @@ impl Dsp {
     pub fn is_fit(self) -> bool
         ensures { result ≡ fit self }
     {
-        let g = self.glob();
-        let mut ok = g.is_fit();
-        let mut n: usize = 0;
-        while n < 8 {
-            let v = self.voices[n];
-            let delay = self.kon_delay[n];
-            ok = ok & v.is_fit() & (delay <= 5);
-            n += 1;
-        }
-        ok
+        let numbers = self.glob().is_fit();
+        let voices = self.voices.iter().all(|v| v.is_fit());
+        let delays = self.kon_delay.iter().all(|delay| *delay <= 5);
+        numbers & voices & delays
     }
 
     pub(crate) fn with_glob(mut self, g: Glob) -> Self
@@ -276,18 +269,14 @@ impl Dsp {
     }
 
     // Write a register and update what it stands for. Refuses 2.
+    #[tactic(auto, unfolding(crate::specs::Registers::write_of))]
     pub fn write_reg(self, index: u8, value: u8) -> Answer
-        ensures { ◌≡◌ {A = Written} (record { refusal = result.refusal; dsp = result.dsp }) (write_of index value self) }
+        ensures { ◌≡◌ {A = Written} (record { refusal = told result; dsp = handed result }) (write_of index value self) }
     {
-        if self.is_fit() {
-            let d = self.put(index % 128, value);
-            Answer { refusal: 0, dsp: d }
-        } else {
-            Answer {
-                refusal: 2,
-                dsp: self,
-            }
+        if !self.is_fit() {
+            return Err(Refusal::Unfit.of(self));
         }
+        Ok(self.put(index % 128, value))
     }
 }
 
@@ -301,13 +290,5 @@ pub(crate) fn byte_left(register: u8, value: u8) -> u8
 pub(crate) fn silence_all(voices: [Voice; 8]) -> [Voice; 8]
     ensures { result ≡ map silenced voices }
 {
-    let mut vs = voices;
-    let mut n: usize = 0;
-    while n < 8 {
-        let v = vs[n];
-        let cut = v.silenced();
-        vs[n] = cut;
-        n += 1;
-    }
-    vs
+    voices.map(|v| v.silenced())
 }

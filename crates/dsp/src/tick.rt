@@ -1,7 +1,5 @@
 // The machine's tick: the record is taken apart once, driven through its ticks, and made again once.
 ghost use Rattle.std.specs.Prelude.{◌≡◌, List, [], map, ℕ, ◌*◌, ◌≤◌, ◌<◌, get_or, length, if◌then◌else◌};
-ghost use Rattle.sound.specs.Clock.{periods};
-ghost use Rattle.sound.specs.Gauss.{weights};
 ghost use Rattle.dsp.specs.Noise.{noise_tick};
 ghost use Rattle.dsp.specs.Fit.{FitGlobals, FitVoice, Fit, fit};
 ghost use Rattle.dsp.specs.Machine.{no_voice, globals_of, apart, together};
@@ -9,18 +7,22 @@ ghost use Rattle.dsp.specs.Mix.{master_of};
 ghost use Rattle.dsp.specs.Echo.{EchoLane, echo_lane};
 ghost use Rattle.dsp.specs.Tick.{polls, kon_now, globals_tick, shared_of, frame_of};
 ghost use Rattle.dsp.specs.Ticks.{Bench, bench_of, ticks_of, Drove, drive_of, After, step_of};
-ghost use Rattle.dsp.specs.Inside.{Wound, envelope_of, dial_of, play_of, feed_of, as_shared, heard, as_sums, as_noise, as_globals, no_dial, samples_at, voices_in, parts_in};
+ghost use Rattle.refusal.specs.Refusal.{told, handed};
+ghost use Rattle.dsp.specs.Inside.{Wound, envelope_of, dial_of, play_of, feed_of, as_shared, heard, as_sums, as_noise, as_globals, no_dial, voices_in, parts_in};
 
 use crate::adsr::Envelope;
 use crate::echo::put_pair;
+use crate::gauss::Weights;
 use crate::lane::{Acc, Dial, Shared, Turned, closed, noised, shown, source_of};
 use crate::mix::Stereo;
 use crate::noise::Noise;
 use crate::play::{Feed, Play};
+use crate::rates::Rates;
 use crate::registers::{Answer, Dsp, Glob};
 use crate::voice::Voice;
 use numbers::bit;
-use sound::{gauss_table, rate_table};
+use refusal::Refusal;
+use std::array;
 
 pub const RAM_SIZE: usize = 0x10000;
 
@@ -31,10 +33,19 @@ pub struct Work {
     pub echo: bool,
 }
 
+impl Work {
+    // Every lane: all voices, and the echo.
+    pub const EVERYTHING: Self = Self {
+        voices: 0xFF,
+        echo: true,
+    };
+}
+
 impl Glob {
     // The poll comes on the ticks on which every_other_sample turns true, and uses up the pending KON.
-    fn ticked(mut self, rates: &[u16]) -> Self
-        requires { (rates.now ≡ periods) × FitGlobals (as_globals self) }
+    #[tactic(auto, unfolding(crate::specs::Tick::globals_tick))]
+    fn ticked(mut self, rates: &Rates) -> Self
+        requires { FitGlobals (as_globals self) }
         ensures { as_globals result ≡ globals_tick (as_globals self) }
     {
         let n = self.noise;
@@ -105,8 +116,8 @@ pub struct Moving {
 }
 
 impl Far {
-    fn ticked(self, rates: &[u16]) -> Self
-        requires { (rates.now ≡ periods) × FitGlobals (as_globals self.glob) }
+    fn ticked(self, rates: &Rates) -> Self
+        requires { FitGlobals (as_globals self.glob) }
         ensures { (as_globals result.glob ≡ globals_tick (as_globals self.glob)) × (result.left ≡ self.left) × (result.right ≡ self.right) }
     {
         let g = self.glob;
@@ -154,24 +165,6 @@ impl Far {
 }
 
 impl Moving {
-    fn enveloped(self) -> [Envelope; 8]
-        ensures { result ≡ self.envelopes }
-    {
-        self.envelopes
-    }
-
-    fn played(self) -> [Play; 8]
-        ensures { result ≡ self.plays }
-    {
-        self.plays
-    }
-
-    fn fed(self) -> [Feed; 8]
-        ensures { result ≡ self.feeds }
-    {
-        self.feeds
-    }
-
     // n ticks, with their samples and their rows of the sheet.
     pub(crate) fn drive(
         self,
@@ -179,42 +172,37 @@ impl Moving {
         n: usize,
         dials: [Dial; 8],
         taps: [i8; 8],
-        table: &[i16],
-        rates: &[u16],
-        currents: &mut [i16],
-        delays: &mut [u8],
-        store: &mut [i16],
-        bytes: &mut [u8],
+        table: &Weights,
+        rates: &Rates,
+        currents: &mut [i16; 8],
+        delays: &mut [u8; 8],
+        store: &mut [[i16; 16]; 8],
+        bytes: &mut [u8; 128],
         ram: &mut [u8],
         pcm: &mut [u8],
         sheet: &mut [u8],
     ) -> Self
-        requires { (table.now ≡ weights) × (rates.now ≡ periods) × (length currents.old ≡ 8) × (length delays.old ≡ 8) × (length store.old ≡ 128) × (length bytes.old ≡ 128) × (length ram.old ≡ 0x10000) × (n < 0x10000) × (length pcm.old ≡ n * 4) × (length sheet.old ≡ n * 36) × ((j : ℕ) → j < 8 → Wound (get_or dials j no_dial).settings) × Fit (together (parts_in self dials taps currents.old delays.old store.old bytes.old)) }
+        requires { (length ram.old ≡ 0x10000) × (n < 0x10000) × (length pcm.old ≡ n * 4) × (length sheet.old ≡ n * 36) × ((j : ℕ) → j < 8 → Wound (get_or dials j no_dial).settings) × Fit (together (parts_in self dials taps currents.old delays.old store.old bytes.old)) }
         ensures { (◌≡◌ {A = Bench} (record { parts = parts_in result dials taps currents.new delays.new store.new bytes.new; ram = ram.new; pcm = pcm.new; sheet = sheet.new; old = [] }) (ticks_of work n (record { parts = parts_in self dials taps currents.old delays.old store.old bytes.old; ram = ram.old; pcm = []; sheet = []; old = sheet.old }))) × Fit (together (parts_in result dials taps currents.new delays.new store.new bytes.new)) × (length result.envelopes ≡ 8) × (length result.plays ≡ 8) × (length result.feeds ≡ 8) }
     {
         let mut f = self.far;
-        let mut envelopes = self.enveloped();
-        let mut plays = self.played();
-        let mut feeds = self.fed();
-        let mut i: usize = 0;
-        while i < n {
+        let mut envelopes = self.envelopes;
+        let mut plays = self.plays;
+        let mut feeds = self.feeds;
+        for i in 0..n {
             let g = f.glob;
             f = f.ticked(rates);
             let h = f.glob;
             let c = g.shared(work.echo, h.noise, bytes[0x5C], bytes[0x5D]);
             let mut acc = Acc::new();
-            let mut v: usize = 0;
-            while v < 8 {
+            for v in 0..8 {
                 let at = i * 36 + v * 4;
                 let to = at + 4;
                 let d = dials[v];
                 if !bit(work.voices, v) {
                     acc = shown(d, c, v, acc, bytes, &sheet[at..to]);
-                    v += 1;
                     continue;
                 }
-                let first = v * 16;
-                let last = first + 16;
                 if bit(c.koff, v) | bit(c.kon, v) {
                     let e0 = envelopes[v];
                     let p0 = plays[v];
@@ -242,7 +230,7 @@ impl Moving {
                     if p.key_on | !h.off() {
                         let y = feeds[v];
                         let b = p.advanced(
-                            &store[first..last],
+                            &store[v],
                             y.buffer_fill,
                             d.pitch,
                             source_of(c.pmon, v, acc.prev),
@@ -250,7 +238,7 @@ impl Moving {
                         let q = b.play;
                         plays[v] = q;
                         if b.due {
-                            let t = b.changed(h, y, c, v, ram, &mut store[first..last], bytes);
+                            let t = b.changed(h, y, c, v, ram, &mut store[v], bytes);
                             let k = t.envelope;
                             let r = t.play;
                             let z = t.feed;
@@ -271,7 +259,6 @@ impl Moving {
                 let e = envelopes[v];
                 let out = e.scaled(currents[v]);
                 acc = closed(d, out, c, v, acc, bytes, &mut sheet[at..to]);
-                v += 1;
             }
             let at = i * 36 + 32;
             let to = at + 4;
@@ -285,7 +272,6 @@ impl Moving {
                 &mut pcm[from..end],
                 &mut sheet[at..to],
             );
-            i += 1;
         }
         Moving {
             far: f,
@@ -358,8 +344,8 @@ impl Dsp {
         requires { (length ram.old ≡ 0x10000) × Fit self × (n < 0x10000) × (length pcm.old ≡ n * 4) × (length sheet.old ≡ n * 36) }
         ensures { (◌≡◌ {A = Bench} (record { parts = apart result; ram = ram.new; pcm = pcm.new; sheet = sheet.new; old = [] }) (ticks_of work n (bench_of self ram.old sheet.old))) × Fit result }
     {
-        let table = gauss_table();
-        let rates = rate_table();
+        let table = Weights::new();
+        let rates = Rates::new();
         let taps = self.taps();
         let mut bytes = self.bytes();
         let voices = self.lanes();
@@ -395,11 +381,12 @@ impl Dsp {
         let e = k.envelopes;
         let p = k.plays;
         let f = k.feeds;
-        let after = voices_of(dials, e, p, f, currents, &store);
+        let after = voices_of(dials, e, p, f, currents, store);
         self.with_parts(k.far, bytes, after, delays, taps)
     }
 
     // So many ticks, with their samples and their rows of the sheet. Refuses 1, 2, then 10.
+    #[tactic(auto, unfolding(crate::specs::Ticks::drive_of))]
     pub fn ticks(
         self,
         work: Work,
@@ -408,171 +395,82 @@ impl Dsp {
         pcm: &mut [u8],
         sheet: &mut [u8],
     ) -> Answer
-        ensures { (◌≡◌ {A = Drove} (record { refusal = result.refusal; dsp = result.dsp; ram = ram.new; pcm = pcm.new; sheet = sheet.new }) (drive_of work count self ram.old pcm.old sheet.old)) × (fit result.dsp ≡ fit self) }
+        ensures { (◌≡◌ {A = Drove} (record { refusal = told result; dsp = handed result; ram = ram.new; pcm = pcm.new; sheet = sheet.new }) (drive_of work count self ram.old pcm.old sheet.old)) × (fit (handed result) ≡ fit self) }
     {
         if ram.len() != RAM_SIZE {
-            return refused(1, self);
+            return Err(Refusal::RamSize.of(self));
         }
         if !self.is_fit() {
-            return refused(2, self);
+            return Err(Refusal::Unfit.of(self));
         }
         let n = count as usize;
         if pcm.len() != n * 4 {
-            return refused(10, self);
+            return Err(Refusal::WrongRoom.of(self));
         }
         if sheet.len() != n * 36 {
-            return refused(10, self);
+            return Err(Refusal::WrongRoom.of(self));
         }
-        let d = self.driven(work, ram, n, pcm, sheet);
-        Answer { refusal: 0, dsp: d }
+        Ok(self.driven(work, ram, n, pcm, sheet))
     }
 
     // One tick. Refuses 1, then 2.
+    #[tactic(auto, unfolding(crate::specs::Ticks::step_of))]
     pub fn step(self, ram: &mut [u8]) -> Answer
-        ensures { ◌≡◌ {A = After} (record { refusal = result.refusal; dsp = result.dsp; ram = ram.new }) (step_of self ram.old) }
+        ensures { ◌≡◌ {A = After} (record { refusal = told result; dsp = handed result; ram = ram.new }) (step_of self ram.old) }
     {
         if ram.len() != RAM_SIZE {
-            return refused(1, self);
+            return Err(Refusal::RamSize.of(self));
         }
-        if self.is_fit() {
-            let mut pcm = [0; 4];
-            let mut sheet = [0; 36];
-            let work = Work {
-                voices: 0xFF,
-                echo: true,
-            };
-            let d = self.driven(work, ram, 1, &mut pcm, &mut sheet);
-            Answer { refusal: 0, dsp: d }
-        } else {
-            refused(2, self)
+        if !self.is_fit() {
+            return Err(Refusal::Unfit.of(self));
         }
+        let mut pcm = [0; 4];
+        let mut sheet = [0; 36];
+        Ok(self.driven(Work::EVERYTHING, ram, 1, &mut pcm, &mut sheet))
     }
-}
-
-fn refused(refusal: u8, dsp: Dsp) -> Answer
-    ensures { (result.refusal ≡ refusal) × (result.dsp ≡ dsp) }
-{
-    Answer { refusal, dsp }
 }
 
 // ---- the arrays, and the voices made of them again
 
-pub(crate) fn dials_of(rates: &[u16], voices: [Voice; 8]) -> [Dial; 8]
-    requires { (rates.now ≡ periods) × ((j : ℕ) → FitVoice (get_or voices j no_voice)) }
+pub(crate) fn dials_of(rates: &Rates, voices: [Voice; 8]) -> [Dial; 8]
+    requires { (j : ℕ) → FitVoice (get_or voices j no_voice) }
     ensures { result ≡ map dial_of voices }
 {
-    let v = voices[0];
-    let d = v.dial(rates);
-    let mut r = [d; 8];
-    let mut n: usize = 0;
-    while n < 8 {
-        let w = voices[n];
-        let e = w.dial(rates);
-        r[n] = e;
-        n += 1;
-    }
-    r
+    voices.map(|v| v.dial(rates))
 }
 
 pub(crate) fn envelopes_of(voices: [Voice; 8]) -> [Envelope; 8]
     ensures { result ≡ map (λ v. envelope_of v.adsr) voices }
 {
-    let v = voices[0];
-    let d = v.envelope();
-    let mut r = [d; 8];
-    let mut n: usize = 0;
-    while n < 8 {
-        let w = voices[n];
-        let e = w.envelope();
-        r[n] = e;
-        n += 1;
-    }
-    r
+    voices.map(|v| v.envelope())
 }
 
 pub(crate) fn plays_of(voices: [Voice; 8]) -> [Play; 8]
     ensures { result ≡ map play_of voices }
 {
-    let v = voices[0];
-    let d = v.play();
-    let mut r = [d; 8];
-    let mut n: usize = 0;
-    while n < 8 {
-        let w = voices[n];
-        let e = w.play();
-        r[n] = e;
-        n += 1;
-    }
-    r
+    voices.map(|v| v.play())
 }
 
 pub(crate) fn feeds_of(voices: [Voice; 8]) -> [Feed; 8]
     ensures { result ≡ map (λ v. feed_of v.brr) voices }
 {
-    let v = voices[0];
-    let d = v.feed();
-    let mut r = [d; 8];
-    let mut n: usize = 0;
-    while n < 8 {
-        let w = voices[n];
-        let e = w.feed();
-        r[n] = e;
-        n += 1;
-    }
-    r
+    voices.map(|v| v.feed())
 }
 
 pub(crate) fn currents_of(voices: [Voice; 8]) -> [i16; 8]
     ensures { result ≡ map (λ v. v.current_sample) voices }
 {
-    let mut r: [i16; 8] = [0; 8];
-    let mut n: usize = 0;
-    while n < 8 {
-        let v = voices[n];
-        let x = v.current_sample;
-        r[n] = x;
-        n += 1;
-    }
-    r
+    voices.map(|v| v.current_sample)
 }
 
-// The samples of all voices, 16 each.
-pub(crate) fn store_of(voices: [Voice; 8]) -> [i16; 128]
-    ensures { (j : ℕ) → j < 8 → samples_at j result ≡ (get_or voices j no_voice).brr.sample_buffer }
+pub(crate) fn store_of(voices: [Voice; 8]) -> [[i16; 16]; 8]
+    ensures { result ≡ map (λ v. v.brr.sample_buffer) voices }
 {
-    let mut store: [i16; 128] = [0; 128];
-    let mut n: usize = 0;
-    while n < 8 {
-        let v = voices[n];
-        let b = v.brr;
-        let x = b.samples();
-        let first = n * 16;
-        let last = first + 16;
-        put_samples(&mut store[first..last], &x);
-        n += 1;
-    }
-    store
-}
-
-fn put_samples(to: &mut [i16], from: &[i16])
-    requires { (length to.old ≡ 16) × (length from.now ≡ 16) }
-    ensures { to.new ≡ from.now }
-{
-    let mut k: usize = 0;
-    while k < 16 {
-        let x = from[k];
-        to[k] = x;
-        k += 1;
-    }
-}
-
-fn samples_of(from: &[i16]) -> [i16; 16]
-    requires { length from.now ≡ 16 }
-    ensures { result ≡ from.now }
-{
-    let mut x: [i16; 16] = [0; 16];
-    put_samples(&mut x, from);
-    x
+    voices.map(
+        |v: Voice| -> [i16; 16]
+            ensures { result ≡ v.brr.sample_buffer }
+        { v.brr.sample_buffer },
+    )
 }
 
 pub(crate) fn voices_of(
@@ -581,25 +479,9 @@ pub(crate) fn voices_of(
     plays: [Play; 8],
     feeds: [Feed; 8],
     currents: [i16; 8],
-    store: &[i16],
+    store: [[i16; 16]; 8],
 ) -> [Voice; 8]
-    requires { length store.now ≡ 128 }
-    ensures { result ≡ voices_in dials envelopes plays feeds currents store.now }
+    ensures { result ≡ voices_in dials envelopes plays feeds currents store }
 {
-    let v = Voice::new();
-    let mut r = [v; 8];
-    let mut n: usize = 0;
-    while n < 8 {
-        let first = n * 16;
-        let last = first + 16;
-        let x = samples_of(&store[first..last]);
-        let d = dials[n];
-        let e = envelopes[n];
-        let p = plays[n];
-        let f = feeds[n];
-        let w = d.voice(e, p, f, currents[n], x);
-        r[n] = w;
-        n += 1;
-    }
-    r
+    array::from_fn(|n| dials[n].voice(envelopes[n], plays[n], feeds[n], currents[n], store[n]))
 }

@@ -8,7 +8,7 @@ ghost use Rattle.dsp.specs.Keys.{silenced};
 use crate::adsr::{Adsr, EnvelopePhase};
 use crate::brr::Brr;
 
-#[derive(Clone, Copy)]
+#[derive(Clone, Copy, PartialEq, Eq)]
 pub struct Voice {
     pub left_vol: i8,
     pub right_vol: i8,
@@ -42,6 +42,7 @@ impl Voice {
         }
     }
 
+    #[tactic(auto, unfolding(numbers::specs::Listed::all))]
     pub(crate) fn is_fit(self) -> bool
         ensures { result ≡ meets (voice_rule self) }
     {

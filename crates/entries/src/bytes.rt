@@ -2,10 +2,10 @@
 // `read_reg` use the bytes, all else the fields".
 ghost use Rattle.std.specs.Prelude.{◌<◌};
 
+use crate::answers::{number, record};
 use crate::lines::line;
 use crate::parts::{Part, with};
 use crate::readings;
-use crate::same::letter;
 use dsp::{Adsr, Answer, Brr, Dsp, EnvelopePhase, Voice};
 use report::lines::say;
 
@@ -21,25 +21,21 @@ fn pointers() -> [u8; 65536] {
 
 // A voice whose next sample is the last of an end block, at a level that no rate changes.
 fn playing(v: Voice) -> Voice {
-    let a = v.adsr;
-    let e = Adsr {
-        adsr_mode: true,
-        envelope_level: 0x400,
-        envelope_phase: EnvelopePhase::Sustain,
-        ..a
-    };
-    let b = v.brr;
-    let c = Brr {
-        nibble_idx: 15,
-        block_end: true,
-        buffer_fill: 16,
-        ..b
-    };
     Voice {
         pitch: 0x1000,
         key_on: true,
-        adsr: e,
-        brr: c,
+        adsr: Adsr {
+            adsr_mode: true,
+            envelope_level: 0x400,
+            envelope_phase: EnvelopePhase::Sustain,
+            ..v.adsr
+        },
+        brr: Brr {
+            nibble_idx: 15,
+            block_end: true,
+            buffer_fill: 16,
+            ..v.brr
+        },
         ..v
     }
 }
@@ -49,10 +45,18 @@ fn with_playing(d: Dsp, j: usize) -> Dsp
     requires { j < 8 }
 {
     let mut e = d;
-    let v = e.voices[j];
-    let w = playing(v);
-    e.voices[j] = w;
+    e.voices[j] = playing(d.voices[j]);
     e
+}
+
+fn letter(phase: EnvelopePhase) -> u8 {
+    match phase {
+        EnvelopePhase::Attack => b'A',
+        EnvelopePhase::Decay => b'D',
+        EnvelopePhase::Sustain => b'S',
+        EnvelopePhase::Release => b'R',
+        EnvelopePhase::Off => b'O',
+    }
 }
 
 // Voice j after one tick.
@@ -66,18 +70,14 @@ fn ticked(out: &impl Print, name: &[u8], d: Dsp, j: usize)
 fn told(out: &impl Print, name: &[u8], a: Answer, j: usize)
     requires { j < 8 }
 {
-    let d = a.dsp;
-    let v = d.voices[j];
-    let e = v.adsr;
-    let b = v.brr;
-    let phase = e.envelope_phase;
+    let v = record(a).voices[j];
     let values = [
         j as u64,
-        a.refusal as u64,
+        number(&a),
         v.key_on as u64,
-        letter(phase) as u64,
-        e.envelope_level as u64,
-        b.addr as u64,
+        letter(v.adsr.envelope_phase) as u64,
+        v.adsr.envelope_level as u64,
+        v.brr.addr as u64,
     ];
     say(out, name);
     line(out, b" voice #: step # key_on # @ level $ at $\n", &values);
@@ -144,10 +144,8 @@ fn reads(out: &impl Print) {
 fn pitch(out: &impl Print) {
     let mut d = with(Part::Pitch, 1, 0x1234);
     d.registers[0x13] = 0x3F;
-    let a = d.write_reg(0x12, 0x56);
-    let e = a.dsp;
-    let v = e.voices[1];
-    let values = [v.pitch as u64];
+    let written = record(d.write_reg(0x12, 0x56));
+    let values = [written.voices[1].pitch as u64];
     line(out, b"PITCH low: pitch $\n", &values);
 }
 

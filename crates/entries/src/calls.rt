@@ -1,9 +1,10 @@
 // One call of each entry, and what it left of what it was given.
 ghost use Rattle.std.specs.Prelude.{◌≤◌};
 
+use crate::answers::{number, record};
 use crate::lines::line;
-use crate::same::same_record;
-use dsp::Dsp;
+use dsp::{Dsp, Sample};
+use refusal::code;
 
 const RAM_SIZE: usize = 65536;
 
@@ -24,23 +25,12 @@ pub fn ready() -> Dsp {
 }
 
 pub fn untouched(ram: &[u8]) -> bool {
-    let mut same = true;
-    let mut i: usize = 0;
-    while i < ram.len() {
-        same = same & (ram[i] == FILL);
-        i += 1;
-    }
-    same
+    ram.iter().all(|byte| *byte == FILL)
 }
 
 fn stepped_on(out: &impl Print, d: Dsp, ram: &mut [u8]) {
     let a = d.step(ram);
-    let e = a.dsp;
-    let values = [
-        a.refusal as u64,
-        same_record(d, e) as u64,
-        untouched(ram) as u64,
-    ];
+    let values = [number(&a), (record(a) == d) as u64, untouched(ram) as u64];
     line(out, b" step # record ? RAM ?", &values);
 }
 
@@ -56,14 +46,12 @@ pub fn stepped(out: &impl Print, d: Dsp, n: usize)
 fn written(out: &impl Print, d: Dsp) {
     let a = d.write_reg(0x0C, 0x7F);
     let b = lent::write_owned(d, 0x0C, 0x7F);
-    let e = a.dsp;
-    let f = b.dsp;
     let values = [
-        a.refusal as u64,
-        same_record(d, e) as u64,
-        b.refusal as u64,
-        same_record(d, f) as u64,
-        same_record(e, f) as u64,
+        number(&a),
+        (record(a) == d) as u64,
+        number(&b),
+        (record(b) == d) as u64,
+        (record(a) == record(b)) as u64,
     ];
     line(
         out,
@@ -74,12 +62,13 @@ fn written(out: &impl Print, d: Dsp) {
 
 // 16 bits, two's complement.
 fn bits(x: i16) -> u64 {
-    numbers::high(x) as u64 * 256 + numbers::low(x) as u64
+    x.cast_unsigned() as u64
 }
 
 fn rendered(out: &impl Print, d: Dsp) {
-    let s = d.render_audio_single();
-    let values = [s.refusal as u64, bits(s.left), bits(s.right)];
+    let answer = d.render_audio_single();
+    let s = answer.unwrap_or(Sample { left: 0, right: 0 });
+    let values = [code(&answer) as u64, bits(s.left), bits(s.right)];
     line(out, b", render_audio_single # $ $\n", &values);
 }
 

@@ -38,8 +38,7 @@ fn hex(out: &impl Print, value: u64) {
 }
 
 fn letter(out: &impl Print, byte: u8) {
-    let text = [byte];
-    say(out, &text);
+    say(out, &[byte]);
 }
 
 fn verdict(out: &impl Print, same: bool) {
@@ -53,10 +52,8 @@ fn verdict(out: &impl Print, same: bool) {
 // The values in their order; 0 where there are too few.
 pub fn line(out: &impl Print, pattern: &[u8], values: &[u64]) {
     let mut used: usize = 0;
-    let mut i: usize = 0;
-    while i < pattern.len() {
-        let value = if used < values.len() { values[used] } else { 0 };
-        used += put(out, pattern[i], value);
-        i += 1;
+    for sign in pattern {
+        let value = values.get(used).copied().unwrap_or(0);
+        used += put(out, *sign, value);
     }
 }

@@ -10,6 +10,7 @@
 //   jump's DIR and SRCN and `read_reg` use the bytes, all else the fields".
 #![tactic(auto)]
 
+mod answers;
 mod bytes;
 mod calls;
 mod lengths;
@@ -18,7 +19,6 @@ mod lines;
 mod parts;
 mod readings;
 mod runs;
-mod same;
 mod staged;
 mod turned;
 

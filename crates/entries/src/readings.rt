@@ -1,8 +1,11 @@
 // A run from a record in which fields and bytes differ: a reading is the byte, a tick goes by the field.
+use crate::answers::number;
 use crate::calls::{FILL, untouched};
 use crate::lines::line;
 use dsp::Dsp;
+use refusal::Refused;
 use report::lines::say;
+use report::runs::ran;
 use sitting::{Ran, run};
 
 // The bytes of PMON and EDL, which ticks leave alone, are 1 and $30.
@@ -23,18 +26,16 @@ fn value(out: &impl Print, byte: u8) {
 }
 
 fn values(out: &impl Print, readings: &[u8]) {
-    let mut i: usize = 0;
-    while i < readings.len() {
-        value(out, readings[i]);
-        i += 1;
+    for byte in readings {
+        value(out, *byte);
     }
 }
 
-fn told(out: &impl Print, r: Ran, ram: &[u8], readings: &[u8]) {
-    let d = r.dsp;
-    let before = [r.refusal as u64, untouched(ram) as u64];
+fn told(out: &impl Print, answer: Result<Ran, Refused<Dsp>>, ram: &[u8], readings: &[u8]) {
+    let before = [number(&answer), untouched(ram) as u64];
     line(out, b": # RAM ? readings", &before);
     values(out, readings);
+    let d = ran(answer).dsp;
     let behind = [d.pmon() as u64, d.edl() as u64];
     line(out, b" pmon $ edl $\n", &behind);
 }
@@ -48,7 +49,7 @@ fn read(
     sheet: &mut [u8],
     readings: &mut [u8],
 ) {
-    let r = run(
+    let answer = run(
         d,
         ram,
         b"QAlQA-QA}TK\x01\x00QAlQA-QA}ND",
@@ -56,7 +57,7 @@ fn read(
         sheet,
         readings,
     );
-    told(out, r, ram, readings);
+    told(out, answer, ram, readings);
 }
 
 fn ticked(out: &impl Print, d: Dsp) {

@@ -3,13 +3,14 @@
 // bytes".
 ghost use Rattle.std.specs.Prelude.{◌≡◌, ◌≤◌};
 
+use crate::answers::number;
 use crate::calls::{FILL, ready, untouched};
 use crate::lines::line;
 use crate::parts::{Part, with};
-use crate::same::same_record;
 use dsp::Dsp;
+use refusal::Refused;
 use report::lines::say;
-use report::runs::run_on;
+use report::runs::{ran, run_on};
 use sitting::Ran;
 
 // How a run is called: by `run_new` or by `run`, the latter from a fit record or not, and how many bytes it is lent.
@@ -52,13 +53,13 @@ fn named(out: &impl Print, of_new: bool, name: &[u8]) {
     say(out, name);
 }
 
-fn answered(out: &impl Print, d: Dsp, r: Ran) {
-    let e = r.dsp;
+fn answered(out: &impl Print, d: Dsp, answer: Result<Ran, Refused<Dsp>>) {
+    let r = ran(answer);
     let values = [
-        r.refusal as u64,
+        number(&answer),
         r.ticks as u64,
         r.readings as u64,
-        same_record(d, e) as u64,
+        (r.dsp == d) as u64,
     ];
     line(out, b": # ticks # readings # record ?", &values);
 }
@@ -83,7 +84,8 @@ fn called(
     sheet: &mut [u8],
     readings: &mut [u8],
 ) {
-    answered(out, d, run_on(of_new, d, ram, log, pcm, sheet, readings));
+    let start = if of_new { None } else { Some(d) };
+    answered(out, d, run_on(start, ram, log, pcm, sheet, readings));
     kept(out, ram, pcm, sheet, readings);
 }
 
@@ -95,20 +97,16 @@ fn tried(out: &impl Print, name: &[u8], log: &[u8], c: Call)
     let mut pcm = [FILL; 13];
     let mut sheet = [FILL; 109];
     let mut readings = [FILL; 3];
-    let n = c.ram;
-    let p = c.pcm;
-    let s = c.sheet;
-    let q = c.readings;
     named(out, c.of_new, name);
     called(
         out,
         c.of_new,
         start(c.of_new, c.fit),
         log,
-        &mut ram[..n],
-        &mut pcm[..p],
-        &mut sheet[..s],
-        &mut readings[..q],
+        &mut ram[..c.ram],
+        &mut pcm[..c.pcm],
+        &mut sheet[..c.sheet],
+        &mut readings[..c.readings],
     );
 }
 

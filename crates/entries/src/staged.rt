@@ -2,10 +2,10 @@
 // record. A refusal hands back the stage it got; RAM and PCM keep their bytes.
 ghost use Rattle.std.specs.Prelude.{◌≤◌};
 
+use crate::answers::number;
 use crate::calls::{FILL, ready, untouched};
 use crate::lines::line;
 use crate::parts::{Part, with};
-use crate::same::same_record;
 use report::lines::say;
 use sitting::{Heard, Stage, run_part};
 
@@ -21,20 +21,20 @@ fn heard(out: &impl Print, part: Heard) {
 }
 
 fn called(out: &impl Print, stage: Stage, ram: &mut [u8], log: &[u8], pcm: &mut [u8]) -> Stage {
-    let d = stage.dsp;
-    let part = run_part(stage, ram, log, pcm);
-    let next = part.stage;
-    let e = next.dsp;
+    let answer = run_part(stage, ram, log, pcm);
+    let (behind, part) = match answer {
+        Ok(part) => (part.stage, part.heard),
+        Err(refused) => (refused.given, Heard::Nothing),
+    };
     let values = [
-        part.refusal as u64,
-        same_record(d, e) as u64,
+        number(&answer),
+        (behind.dsp == stage.dsp) as u64,
         untouched(ram) as u64,
         untouched(pcm) as u64,
     ];
     line(out, b": # record ? RAM ? PCM ?", &values);
-    let put = part.heard;
-    heard(out, put);
-    next
+    heard(out, part);
+    behind
 }
 
 // One part, on bytes that are all alike before it; answers where the run then stands.

@@ -2,9 +2,10 @@
 // and RAM.
 ghost use Rattle.std.specs.Prelude.{◌≡◌, length};
 
+use crate::answers::record;
 use crate::lines::line;
-use crate::same::{same_bytes, same_fields};
 use dsp::{Adsr, Dsp, EnvelopePhase, Sample, Voice};
+use refusal::Refusal;
 use report::lines::say;
 
 const TICKS: u32 = 64;
@@ -18,24 +19,22 @@ fn looping() -> [u8; 65536]
 
 // A voice in Release, with all that it needs when it is keyed on, by its rates or by GAIN.
 fn released(v: Voice, by_rates: bool) -> Voice {
-    let a = v.adsr;
-    let e = Adsr {
-        adsr_mode: by_rates,
-        gain_param: 0x7F,
-        attack_rate: 15,
-        decay_rate: 7,
-        sustain_level: 5,
-        sustain_rate: 31,
-        envelope_level: 0x700,
-        envelope_phase: EnvelopePhase::Release,
-        ..a
-    };
     Voice {
         left_vol: 40,
         right_vol: -30,
         pitch: 0x1800,
         srcn: 7,
-        adsr: e,
+        adsr: Adsr {
+            adsr_mode: by_rates,
+            gain_param: 0x7F,
+            attack_rate: 15,
+            decay_rate: 7,
+            sustain_level: 5,
+            sustain_rate: 31,
+            envelope_level: 0x700,
+            envelope_phase: EnvelopePhase::Release,
+            ..v.adsr
+        },
         ..v
     }
 }
@@ -46,10 +45,8 @@ fn lively() -> Dsp {
     let off = d.voices[0];
     let v = released(off, false);
     let w = released(off, true);
-    let voices = [v, w, v, v, v, v, v, v];
-    let taps = [10, -20, 30, -40, 50, -60, 70, 80];
-    d.voices = voices;
-    d.fir_coeff = taps;
+    d.voices = [v, w, v, v, v, v, v, v];
+    d.fir_coeff = [10, -20, 30, -40, 50, -60, 70, 80];
     d.flg = 0x1F;
     d.dir_base = 0x12;
     d.new_kon = 0x83;
@@ -77,11 +74,8 @@ fn over(i: usize, byte: u8) -> u8 {
 
 fn turned_over(d: Dsp) -> Dsp {
     let mut e = d;
-    let mut i: usize = 0;
-    while i < 128 {
-        let x = e.registers[i];
-        e.registers[i] = over(i, x);
-        i += 1;
+    for i in 0..128 {
+        e.registers[i] = over(i, d.registers[i]);
     }
     e
 }
@@ -99,39 +93,40 @@ struct Pair {
 #[derive(Clone, Copy)]
 struct Ticked {
     dsp: Dsp,
-    sample: Sample,
+    sample: Result<Sample, Refusal>,
 }
 
-fn same_sample(a: Sample, b: Sample) -> bool {
-    (a.refusal == b.refusal) & (a.left == b.left) & (a.right == b.right)
+// All but the register bytes.
+fn same_fields(a: Dsp, b: Dsp) -> bool {
+    a == Dsp {
+        registers: a.registers,
+        ..b
+    }
 }
 
-fn sounds(s: Sample) -> bool {
-    (s.refusal == 0) & (s.left != 0) & (s.right != 0)
+fn sounds(sample: Result<Sample, Refusal>) -> bool {
+    sample.is_ok_and(|s| (s.left != 0) & (s.right != 0))
 }
 
 // A tick is `step`, then `render_audio_single`.
 fn tick(d: Dsp, ram: &mut [u8]) -> Ticked
     ensures { length ram.new ≡ length ram.old }
 {
-    let a = d.step(ram);
-    let e = a.dsp;
-    let s = e.render_audio_single();
-    Ticked { dsp: e, sample: s }
+    let dsp = record(d.step(ram));
+    Ticked {
+        dsp,
+        sample: dsp.render_audio_single(),
+    }
 }
 
 impl Pair {
     fn ticked(self, a: Ticked, b: Ticked) -> Self {
-        let x = a.dsp;
-        let y = b.dsp;
-        let s = a.sample;
-        let t = b.sample;
         Pair {
-            x,
-            y,
-            fields: self.fields & same_fields(x, y),
-            samples: self.samples & same_sample(s, t),
-            heard: self.heard | sounds(s),
+            x: a.dsp,
+            y: b.dsp,
+            fields: self.fields & same_fields(a.dsp, b.dsp),
+            samples: self.samples & (a.sample == b.sample),
+            heard: self.heard | sounds(a.sample),
         }
     }
 }
@@ -144,14 +139,10 @@ fn run(x: Dsp, y: Dsp, ram: &mut [u8], other: &mut [u8]) -> Pair {
         samples: true,
         heard: false,
     };
-    let mut i: u32 = 0;
-    while i < TICKS {
-        let d = p.x;
-        let e = p.y;
-        let a = tick(d, ram);
-        let b = tick(e, other);
+    for _ in 0..TICKS {
+        let a = tick(p.x, ram);
+        let b = tick(p.y, other);
         p = p.ticked(a, b);
-        i += 1;
     }
     p
 }
@@ -160,7 +151,7 @@ fn compared(out: &impl Print, name: &[u8], a: Dsp, b: Dsp) {
     let mut ram = looping();
     let mut other = looping();
     let p = run(a, b, &mut ram, &mut other);
-    told(out, name, p, same_bytes(&ram, &other));
+    told(out, name, p, ram == other);
 }
 
 fn told(out: &impl Print, name: &[u8], p: Pair, ram: bool) {

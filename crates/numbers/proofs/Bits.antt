@@ -1,6 +1,6 @@
 -- The digits of a number, and a number with one bit as given, from the lowest digit on: its digits, its size, and that the
 -- machine's masks give it.
-use Rattle.std.proofs.Common.{◌≡◌, ℕ, zero, suc, ◌+◌, ◌-◌, ◌*◌, ◌/◌, ◌%◌, ◌^◌, ◌<◌, ◌≤◌, Bool, true, false, not, ◌≢◌, sym, refl, ap, ◌∙◌, subst, le_trans, mul-le-mul_right, mod-eq_of_lt, pow-suc, div-mul-le_self, one-add, arith, pow_pos, shr-shr, le-ltb, lt-ltb, eq-eqb, ne_eqb, eqb-true, le-leb, if◌then◌else◌}
+use Rattle.std.proofs.Common.{◌≡◌, ℕ, zero, suc, ◌+◌, ◌-◌, ◌*◌, ◌/◌, ◌%◌, ◌^◌, ◌<◌, ◌≤◌, Bool, true, false, ◌≢◌, sym, refl, ap, ◌∙◌, subst, le_trans, mul-le-mul_right, mod-eq_of_lt, pow-suc, div-mul-le_self, one-add, arith, pow_pos, shr-shr, eq-eqb, ne_eqb, eqb-true, le-leb, if◌then◌else◌}
 use native.Mathlib.Nat.{mod-le}
 use native.Mathlib.Decide.{ℕ_discrete, dec_le}
 use borrow.Author.Tests.{eqb-false, lt-leb}
@@ -8,7 +8,7 @@ use lib.Bits.{bit_and, bit_or, or_step, and_step, and_mask, or_zero_r}
 use lib.Dec.{eqb-zero-suc, eqb-suc-zero, eqb-suc-suc}
 use lib.Pow.{pow-lt}
 use Rattle.numbers.specs.Bits.{bit, with_bit}
-use Rattle.numbers.specs.Choice.{◌=?◌, ◌≤?◌, ◌<?◌}
+use Rattle.numbers.specs.Choice.{◌=?◌, ◌≤?◌}
 use Rattle.numbers.proofs.Choice.{chosen}
 
 -- ---- digits
@@ -148,11 +148,3 @@ top_bit x l =
       | yes h ↦ eq-eqb (digit x 7) 1 (omega arith) ∙ sym (le-leb _ _ h)
       | no h ↦ ne_eqb (digit x 7) 1 (λ e. omega arith) ∙ sym (lt-leb 0x80 x (omega arith))
     ]
-
-pub top_clear : (x : ℕ) → x < 256 → not (bit x 7) ≡ (x <? 0x80)
-top_clear x l =
-    rw (top_bit x l)
-    (elim (dec_le 0x80 x) [
-      | yes h ↦ rw (le-leb _ _ h) (sym (le-ltb x 0x80 h))
-      | no h ↦ rw (lt-leb 0x80 x (omega arith)) (sym (lt-ltb x 0x80 (omega arith)))
-    ])

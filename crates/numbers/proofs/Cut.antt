@@ -123,6 +123,3 @@ below_256 (negsuc n) = omega arith
 pub low_law : Law1 (λ x. to_z w32 (bit_and (of_z w32 x) 255)) (λ x. pos (mod_z x 256)) (λ m. 255) (λ m. ltb m (2 ^ hbits w32))
 low_law x m p t =
     (ap (to_z w32) (and_mask (of_z w32 x) 8 ∙ low_mod_256 x (within_fits w32 x m p t)) ∙ to_z_pos w32 (mod_z x 256) (omega (arith, below_256 x)), below_256 x)
-
-abbrev pub q_low8 : {x : ℤ} → Q x → Q (to_z w32 (bit_and (of_z w32 x) 255))
-q_low8 p = q_1 (λ x. to_z w32 (bit_and (of_z w32 x) 255)) (λ x. pos (mod_z x 256)) _ (λ m. ltb m (2 ^ hbits w32)) low_law p

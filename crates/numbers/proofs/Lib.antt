@@ -6,4 +6,5 @@ pub mod Choice
 pub mod Table
 pub mod Turns
 pub mod Lists
+pub mod Maps
 pub mod Bits

@@ -1,8 +1,8 @@
 -- The ranges and the read-backs of signed formulas, by computation.
 -- `Q z`: the machine's number z stands for `value`, of magnitude at most `bound`, where `ok` computes to true. `search quotes` builds it from z.
-use Rattle.std.proofs.Common.{◌≡◌, ℕ, zero, suc, ◌+◌, ◌-◌, ◌*◌, ◌/◌, ◌^◌, ◌<◌, ◌≤◌, Bool, true, false, cond, ◌&&◌, T, ltb, leb, ℤ, pos, negsuc, ◌+ℤ◌, ◌-ℤ◌, ◌*ℤ◌, neg_ℤ, nat_abs, refl, ap, ◌∙◌, le_trans, le_refl, lt_of_le_of_lt, mul-le-mul, le-div_iff_mul-le, div-mul-le_self, arith, ltb→lt, leb→le, Fits, SFits, to_z, of_z}
+use Rattle.std.proofs.Common.{◌≡◌, ℕ, zero, suc, ◌+◌, ◌-◌, ◌*◌, ◌/◌, ◌^◌, ◌<◌, ◌≤◌, Bool, true, false, cond, ◌&&◌, T, ltb, leb, ℤ, pos, negsuc, ◌+ℤ◌, ◌-ℤ◌, ◌*ℤ◌, neg_ℤ, refl, ap, ◌∙◌, le_trans, le_refl, lt_of_le_of_lt, mul-le-mul, le-div_iff_mul-le, div-mul-le_self, arith, ltb→lt, leb→le, Fits, SFits, to_z, of_z}
 use native.Mathlib.Nat.{div-zero}
-use lib.Signed.{mag, shr_z, non_neg}
+use lib.Signed.{mag, shr_z}
 use mir.Syntax.{Width}
 use mir.Val.{bits, hbits}
 use mir.ValLaws.{to_z-of_z}
@@ -175,9 +175,6 @@ q_shr k p = q_1 (λ x. shr_z x k) (λ x. shr_z x k) _ (λ m. true) (shr_law k) p
 abbrev pub q_read : {a : ℤ} (w : Width) → Q a → Q (to_z w (of_z w a))
 q_read w p = q_1 (λ x. to_z w (of_z w x)) (λ x. x) _ (λ m. ltb m (2 ^ hbits w)) (read_law w) p
 
-abbrev pub q_upto : (w : Width) (n m : ℕ) → n ≤ m → Q (to_z w n)
-q_upto w n m h = q_read w (q_is (pos n) m refl h)
-
 abbrev pub q_unsigned : (w w' : Width) (n : ℕ) → Fits w' n → Q (to_z w n)
 q_unsigned w w' n f = q_read w (q_nat w' n f)
 
@@ -192,9 +189,6 @@ value_below m q t h = below (rw (q.is t) at h)
 abbrev pub q_call : (m : ℕ) {r z : ℤ} → r ≡ z → mag r < m → Q z → Q r
 q_call m e h q = record { value = q.value; bound = m - 1; ok = q.ok; is = λ t. e ∙ q.is t; within = λ t. value_below m (q_by e q) t h }
 
-abbrev pub q_local : (w : Width) {b : ℕ} {a : ℤ} → b ≡ of_z w a → Q a → Q (to_z w b)
-q_local w e p = q_by (λ i. to_z w (e i)) (q_read w p)
-
 pub ruleset quotes = (tt, q_par, q_pos, q_neg, q_add, q_sub, q_mul, q_shr, q_read)
 
 -- ---- the uses
@@ -207,12 +201,3 @@ fits {w} q t = let o = passed q (ltb q.bound (2 ^ hbits w)) t in rw o.0 (within_
 
 pub bounded : {z : ℤ} {m : ℕ} (q : Q z) → T (q.ok && leb q.bound m) → Within m z
 bounded {m = m} q t = let o = passed q (leb q.bound m) t in record { le = rw o.0 (le_trans o.1 (leb→le _ _ o.2)) }
-
--- a cast to an unsigned type, of a formula that stands for the number n
-pub fits_u : {w : Width} {z : ℤ} (q : Q z) (n : ℕ) → q.value ≡ pos n → T (q.ok && ltb q.bound (2 ^ bits w)) → T (non_neg z) × Fits w (nat_abs z)
-fits_u {w} q n e t =
-    let o = passed q (ltb q.bound (2 ^ bits w)) t in
-    rw (o.0 ∙ e) (tt, record { fits = lt_of_le_of_lt (rw e at o.1) (ltb→lt _ _ o.2) })
-
-pub reads_u : {z : ℤ} (q : Q z) (n : ℕ) → q.value ≡ pos n → T q.ok → nat_abs z ≡ n
-reads_u q n e t = ap nat_abs (q.is t ∙ e)

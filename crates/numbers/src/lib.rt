@@ -12,13 +12,7 @@ ghost use Rattle.numbers.specs.Unsigned.{with_low, with_high, wrapped, least};
 pub fn clamp16(x: i32) -> i32
     ensures { result ≡ clamp16_z x }
 {
-    if x < -0x8000 {
-        -0x8000
-    } else if 0x7FFF < x {
-        0x7FFF
-    } else {
-        x
-    }
+    x.clamp(-0x8000, 0x7FFF)
 }
 
 // The low 16 bits, two's complement: the Rust's `as i16 as i32`.
@@ -39,21 +33,23 @@ pub fn cut4(x: i8) -> i32
 pub fn signed8(x: u8) -> i8
     ensures { result ≡ cut_z 0x80 (pos x) }
 {
-    (((x as i32) << 24) >> 24) as i8
+    x.cast_signed()
 }
 
 // The low byte of 16 bits.
 pub fn low(x: i16) -> u8
     ensures { result ≡ low_z x }
 {
-    ((x as i32) & 255) as u8
+    let [lo, _] = x.to_le_bytes();
+    lo
 }
 
 // The high byte of 16 bits.
 pub fn high(x: i16) -> u8
     ensures { result ≡ high_z x }
 {
-    low(x >> 8)
+    let [_, hi] = x.to_le_bytes();
+    hi
 }
 
 // u16_split's `*x.lo_mut() = lo`.
@@ -89,32 +85,26 @@ pub fn with_bit(x: u8, n: usize, on: bool) -> u8
 pub fn wrapping_add16(a: u16, b: u16) -> u16
     ensures { result ≡ wrapped (a + b) }
 {
-    std::num::wrapping_add_u16(a, b)
+    a.wrapping_add(b)
 }
 
 // The difference, not below 0.
 pub fn saturating_sub(a: u16, b: u16) -> u16
     ensures { result ≡ a - b }
 {
-    if a < b { 0 } else { a - b }
+    a.saturating_sub(b)
 }
 
 pub fn min(a: u16, b: u16) -> u16
     ensures { result ≡ least a b }
 {
-    if a <= b { a } else { b }
+    a.min(b)
 }
 
 // As many bytes as both have.
 pub fn copy(from: &[u8], to: &mut [u8])
     ensures { to.new ≡ copied from.now to.old }
 {
-    let mut i: usize = 0;
-    while i < from.len() {
-        if i == to.len() {
-            return;
-        }
-        to[i] = from[i];
-        i += 1;
-    }
+    let n = from.len().min(to.len());
+    to[..n].copy_from_slice(&from[..n]);
 }

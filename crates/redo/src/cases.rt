@@ -1,168 +1,94 @@
 // The file of pairs: the number of a RAM image, the mask of the named voices, what is lent, which records are unfit; then five
 // logs, each behind its length: both preludes, the old log, the new one, the tail.
-use crate::redone::{Asked, redo, spoiled};
+use crate::redone::{Asked, Pair, redo, spoiled};
 use dsp::Dsp;
-use report::cases::{image, stored_log};
+use report::cases::{IMAGES, image, stops, stored_log};
 use report::input::read_full;
 use report::lines::{numbered, say};
-use report::runs::run_whole;
+use report::runs::{ran, run_whole};
 use std::io::Read;
 use std::rt::Files;
 
-// A file may have no end, as a device has none: no more cases than these are read.
-const CASES_MOST: u64 = 1000;
-
-// The images are ram0 to ram9.
-const IMAGES: u8 = 10;
-
 const HEAD: usize = 4;
-
-// The record that a run gave back, and how long its log was; or that the file stops inside the log.
-#[derive(Clone, Copy)]
-struct Back {
-    stops: bool,
-    size: usize,
-    dsp: Dsp,
-}
 
 // Of a log that has its end record alone.
 const END_SIZE: usize = 2;
 
-pub fn all<R: Read>(rt: &(impl Files + Print), file: &mut R) {
-    let mut number: u64 = 1;
-    while number <= CASES_MOST {
-        if !next(rt, file, number) {
-            return;
-        }
-        number += 1;
-    }
+// The record that a run gave back, and how long its log was.
+#[derive(Clone, Copy)]
+struct Back {
+    size: usize,
+    dsp: Dsp,
 }
 
 // Whether there was a pair to rework.
-fn next<R: Read>(rt: &(impl Files + Print), file: &mut R, number: u64) -> bool {
+pub fn next<R: Read>(rt: &(impl Files + Print), file: &mut R, number: u64) -> bool {
     let mut head = [0u8; 4];
     let got = read_full(file, &mut head);
     if got == 0 {
         return false;
     }
-    let ram = head[0];
+    let [ram, named, lent, unfit] = head;
     if got < HEAD || ram >= IMAGES {
         return stops(rt);
     }
     let asked = Asked {
         ram,
-        named: head[1],
-        lent: head[2],
-        unfit: head[3],
+        named,
+        lent,
+        unfit,
     };
     numbered(rt, b"CASE ", number);
-    with_preludes(rt, file, asked)
-}
-
-fn stops(out: &impl Print) -> bool {
-    say(out, b"cases stops inside a case\n");
-    false
-}
-
-fn with_preludes<R: Read>(rt: &(impl Files + Print), file: &mut R, asked: Asked) -> bool {
-    let p = run_next(rt, file, asked.ram, true, false, Dsp::new());
-    let q = run_next(rt, file, asked.ram, true, false, Dsp::new());
-    if p.stops | q.stops {
-        return stops(rt);
+    match pair(rt, file, asked) {
+        Some(()) => true,
+        None => stops(rt),
     }
-    let from = p.dsp;
-    let start = spoiled(q.dsp, asked.unfit % 2 == 1);
-    let of_new = (asked.unfit == 0) & (p.size == END_SIZE) & (q.size == END_SIZE);
-    with_old(rt, file, asked, of_new, from, start)
 }
 
-fn with_old<R: Read>(
-    rt: &(impl Files + Print),
-    file: &mut R,
-    asked: Asked,
-    of_new: bool,
-    from: Dsp,
-    start: Dsp,
-) -> bool {
-    let mut log = [0u8; 65536];
-    let found = stored_log(file, &mut log);
-    if found.failed {
-        return stops(rt);
-    }
-    let n = found.size;
-    with_new(rt, file, asked, of_new, from, start, &log[..n])
-}
-
-fn with_new<R: Read>(
-    rt: &(impl Files + Print),
-    file: &mut R,
-    asked: Asked,
-    of_new: bool,
-    from: Dsp,
-    start: Dsp,
-    old: &[u8],
-) -> bool {
-    let mut log = [0u8; 65536];
-    let found = stored_log(file, &mut log);
-    if found.failed {
-        return stops(rt);
-    }
-    let n = found.size;
-    with_tail(
-        rt,
-        file,
-        asked.ram,
-        redo(rt, asked, of_new, from, start, old, &log[..n]),
-    )
-}
-
-// From the record that the rework gave back.
-fn with_tail<R: Read>(rt: &(impl Files + Print), file: &mut R, ram: u8, back: Dsp) -> bool {
+// A pair is reworked, and the tail runs from the record that the rework gave back; none where the file stops inside it.
+fn pair<R: Read>(rt: &(impl Files + Print), file: &mut R, asked: Asked) -> Option<()> {
+    let p = run_next(rt, file, asked.ram, false, None)?;
+    let q = run_next(rt, file, asked.ram, false, None)?;
+    let mut old = [0u8; 65536];
+    let n = stored_log(file, &mut old)?;
+    let mut new = [0u8; 65536];
+    let m = stored_log(file, &mut new)?;
+    let pair = Pair {
+        asked,
+        of_new: (asked.unfit == 0) & (p.size == END_SIZE) & (q.size == END_SIZE),
+        from: p.dsp,
+        start: spoiled(q.dsp, asked.unfit % 2 == 1),
+        old: &old[..n],
+        new: &new[..m],
+    };
+    let back = redo(rt, &pair);
     say(rt, b"TAIL\n");
-    let t = run_next(rt, file, ram, false, true, back);
-    if t.stops {
-        return stops(rt);
-    }
-    true
+    run_next(rt, file, asked.ram, true, Some(back))?;
+    Some(())
 }
 
-// The next log of the file, from `new` or from a record, told or not, on the image.
+// The next log of the file, from a record or from `new`, told or not, on the image.
 fn run_next<R: Read>(
     rt: &(impl Files + Print),
     file: &mut R,
     ram: u8,
-    of_new: bool,
     told: bool,
-    start: Dsp,
-) -> Back {
+    start: Option<Dsp>,
+) -> Option<Back> {
     let mut log = [0u8; 65536];
-    let found = stored_log(file, &mut log);
-    if found.failed {
-        return Back {
-            stops: true,
-            size: 0,
-            dsp: start,
-        };
-    }
-    let n = found.size;
-    let back = run_log(rt, ram, of_new, told, start, &log[..n]);
-    Back {
-        stops: false,
-        size: n,
-        dsp: back,
-    }
+    let size = stored_log(file, &mut log)?;
+    let dsp = run_log(rt, ram, told, start, &log[..size]);
+    Some(Back { size, dsp })
 }
 
 fn run_log(
     rt: &(impl Files + Print),
     number: u8,
-    of_new: bool,
     told: bool,
-    start: Dsp,
+    start: Option<Dsp>,
     log: &[u8],
 ) -> Dsp {
     let mut ram = [0u8; 65537];
     let n = image(rt, number, &mut ram);
-    let w = run_whole(rt, of_new, told, start, log, &mut ram[..n]);
-    w.dsp
+    ran(run_whole(rt, told, start, log, &mut ram[..n]).answer).dsp
 }

@@ -3,10 +3,11 @@ ghost use Rattle.std.specs.Prelude.{◌<◌};
 
 use chip_log::measure;
 use dsp::Dsp;
+use refusal::Refused;
 use report::cases::image;
-use report::digest::{EMPTY, with_bytes, with_registers};
+use report::digest::{EMPTY, with_bytes};
 use report::lines;
-use report::runs::{Room, room_for, run_cut, tell};
+use report::runs::{Room, ran, room_of, run_cut, tell};
 use rework::{Reworked, rework, rework_new};
 use sitting::Ran;
 use std::rt::Files;
@@ -36,103 +37,63 @@ pub fn spoiled(dsp: Dsp, unfit: bool) -> Dsp {
     d
 }
 
-// The record that the rework gives back. The first run has a RAM of its own. `of_new`: both sittings start from `new`, so that
-// `rework_new` has to give the same.
-pub fn redo(
-    rt: &(impl Files + Print),
-    asked: Asked,
-    of_new: bool,
-    from: Dsp,
-    start: Dsp,
-    old: &[u8],
-    new: &[u8],
-) -> Dsp {
+// Two sittings: the records that they start from, and their logs. `of_new`: both start from `new`, so that `rework_new` has to
+// give the same.
+#[derive(Clone, Copy)]
+pub struct Pair<'a> {
+    pub asked: Asked,
+    pub of_new: bool,
+    pub from: Dsp,
+    pub start: Dsp,
+    pub old: &'a [u8],
+    pub new: &'a [u8],
+}
+
+// What is lent for samples, sheet and readings.
+#[derive(Drop)]
+struct Lent<'a> {
+    pcm: &'a mut [u8],
+    sheet: &'a mut [u8],
+    readings: &'a mut [u8],
+}
+
+impl Lent<'_> {
+    fn held(&self) -> u64 {
+        with_bytes(
+            with_bytes(with_bytes(EMPTY, self.pcm), self.sheet),
+            self.readings,
+        )
+    }
+}
+
+// The record that the rework gives back. The first run has a RAM of its own.
+pub fn redo(rt: &(impl Files + Print), pair: &Pair) -> Dsp {
     let mut ram = [0u8; 65537];
-    let n = image(rt, asked.ram, &mut ram);
+    let n = image(rt, pair.asked.ram, &mut ram);
     let mut own = ram;
-    redo_room(
-        rt,
-        asked,
-        of_new,
-        from,
-        start,
-        &ram[..n],
-        &mut own[..n],
-        old,
-        new,
-    )
+    redo_room(rt, pair, &ram[..n], &mut own[..n])
 }
 
 // Room for any log, and a byte more.
-fn redo_room(
-    out: &impl Print,
-    asked: Asked,
-    of_new: bool,
-    from: Dsp,
-    start: Dsp,
-    ram: &[u8],
-    own: &mut [u8],
-    old: &[u8],
-    new: &[u8],
-) -> Dsp {
+fn redo_room(out: &impl Print, pair: &Pair, ram: &[u8], own: &mut [u8]) -> Dsp {
     let mut pcm = [0; 128001];
     let mut sheet = [0; 1152001];
     let mut readings = [0; 20001];
-    redo_in(
-        out,
-        asked,
-        of_new,
-        from,
-        start,
-        ram,
-        own,
-        old,
-        new,
-        &mut pcm,
-        &mut sheet,
-        &mut readings,
-    )
+    redo_on(out, pair, ram, own, &mut pcm, &mut sheet, &mut readings)
 }
 
 // Behind a reference an array's length is its type's, and no check has to count a million bytes.
-fn redo_in(
+fn redo_on(
     out: &impl Print,
-    asked: Asked,
-    of_new: bool,
-    from: Dsp,
-    start: Dsp,
+    pair: &Pair,
     ram: &[u8],
     own: &mut [u8],
-    old: &[u8],
-    new: &[u8],
     pcm: &mut [u8; 128001],
     sheet: &mut [u8; 1152001],
     readings: &mut [u8; 20001],
 ) -> Dsp {
-    redo_on(
-        out, asked, of_new, from, start, ram, own, old, new, pcm, sheet, readings,
-    )
-}
-
-fn redo_on(
-    out: &impl Print,
-    asked: Asked,
-    of_new: bool,
-    from: Dsp,
-    start: Dsp,
-    ram: &[u8],
-    own: &mut [u8],
-    old: &[u8],
-    new: &[u8],
-    pcm: &mut [u8],
-    sheet: &mut [u8],
-    readings: &mut [u8],
-) -> Dsp {
-    let r = run_cut(false, from, own, old, pcm, sheet, readings);
-    let end = r.dsp;
-    reworked(
-        out, asked, of_new, start, end, ram, old, new, pcm, sheet, readings,
-    )
+    let r = ran(run_cut(Some(pair.from), own, pair.old, pcm, sheet, readings));
+    reworked(out, pair, r.dsp, ram, pcm, sheet, readings)
 }
 
 // A byte less of some, a byte more, or as many.
@@ -140,7 +101,7 @@ fn resized(n: usize, lent: u8, short: u8) -> usize
     requires { (n < 0x10000000000) × (short < 255) }
 {
     if lent == short {
-        if n == 0 { 0 } else { n - 1 }
+        n.saturating_sub(1)
     } else if lent == short + 1 {
         n + 1
     } else {
@@ -151,69 +112,63 @@ fn resized(n: usize, lent: u8, short: u8) -> usize
 // What the new log needs, but for a byte of one slice, and the record that comes back.
 fn reworked(
     out: &impl Print,
-    asked: Asked,
-    of_new: bool,
-    start: Dsp,
+    pair: &Pair,
     end: Dsp,
     ram: &[u8],
-    old: &[u8],
-    new: &[u8],
     pcm: &mut [u8],
     sheet: &mut [u8],
     readings: &mut [u8],
 ) -> Dsp {
-    let m = measure(new);
-    let e = room_for(m.ticks, m.readings);
-    let lent = Room {
+    let e = room_of(pair.new);
+    let asked = pair.asked;
+    let room = Room {
         pcm: resized(e.pcm, asked.lent, SHORT_PCM),
         sheet: resized(e.sheet, asked.lent, SHORT_SHEET),
         readings: resized(e.readings, asked.lent, SHORT_READINGS),
     };
-    let n = lent.within(pcm.len(), sheet.len(), readings.len());
+    let n = room.within(pcm.len(), sheet.len(), readings.len());
+    let mut lent = Lent {
+        pcm: &mut pcm[..n.pcm],
+        sheet: &mut sheet[..n.sheet],
+        readings: &mut readings[..n.readings],
+    };
     rework_on(
         out,
-        asked.named,
-        of_new,
-        start,
+        pair,
         spoiled(end, asked.unfit / 2 % 2 == 1),
         ram,
-        old,
-        new,
-        &mut pcm[..n.pcm],
-        &mut sheet[..n.sheet],
-        &mut readings[..n.readings],
+        &mut lent,
     )
 }
 
-fn held(pcm: &[u8], sheet: &[u8], readings: &[u8]) -> u64 {
-    with_bytes(with_bytes(with_bytes(EMPTY, pcm), sheet), readings)
-}
-
-fn rework_on(
-    out: &impl Print,
-    named: u8,
-    of_new: bool,
-    start: Dsp,
-    end: Dsp,
-    ram: &[u8],
-    old: &[u8],
-    new: &[u8],
-    pcm: &mut [u8],
-    sheet: &mut [u8],
-    readings: &mut [u8],
-) -> Dsp {
-    let before = held(pcm, sheet, readings);
-    let w = rework(named, start, end, ram, old, new, pcm, sheet, readings);
-    if w.refusal == 0 {
-        tell_reworked(out, w, ram, new, pcm, sheet, readings);
-    } else {
-        lines::refused(out, w.refusal);
-        differs(
-            out,
-            (w.members != 0) | (w.count != 0) | (before != held(pcm, sheet, readings)),
-        );
+fn rework_on(out: &impl Print, pair: &Pair, end: Dsp, ram: &[u8], lent: &mut Lent) -> Dsp {
+    let before = lent.held();
+    let w = rework(
+        pair.asked.named,
+        pair.start,
+        end,
+        ram,
+        pair.old,
+        pair.new,
+        lent.pcm,
+        lent.sheet,
+        lent.readings,
+    );
+    let dsp = match w {
+        Ok(w) => {
+            tell_reworked(out, w, ram, pair.new, lent);
+            w.dsp
+        }
+        Err(e) => {
+            lines::refused(out, e.refusal);
+            differs(out, before != lent.held());
+            e.given
+        }
+    };
+    if pair.of_new {
+        of_new_too(out, pair, w, ram, lent);
     }
-    of_new_too(out, of_new, w, named, ram, old, new, pcm, sheet, readings)
+    dsp
 }
 
 fn differs(out: &impl Print, so: bool) {
@@ -224,53 +179,35 @@ fn differs(out: &impl Print, so: bool) {
 
 fn of_new_too(
     out: &impl Print,
-    of_new: bool,
-    w: Reworked,
-    named: u8,
+    pair: &Pair,
+    w: Result<Reworked, Refused<Dsp>>,
     ram: &[u8],
-    old: &[u8],
-    new: &[u8],
-    pcm: &mut [u8],
-    sheet: &mut [u8],
-    readings: &mut [u8],
-) -> Dsp {
-    let d = w.dsp;
-    if of_new {
-        let after = held(pcm, sheet, readings);
-        let v = rework_new(named, ram, old, new, pcm, sheet, readings);
-        differs(out, !same(w, v) | (after != held(pcm, sheet, readings)));
-    }
-    d
-}
-
-fn same(w: Reworked, v: Reworked) -> bool {
-    let d = w.dsp;
-    let e = v.dsp;
-    (w.refusal == v.refusal)
-        & (w.members == v.members)
-        & (w.count == v.count)
-        & (with_registers(EMPTY, d) == with_registers(EMPTY, e))
-}
-
-fn tell_reworked(
-    out: &impl Print,
-    w: Reworked,
-    ram: &[u8],
-    new: &[u8],
-    pcm: &[u8],
-    sheet: &[u8],
-    readings: &[u8],
+    lent: &mut Lent,
 ) {
+    let after = lent.held();
+    let v = rework_new(
+        pair.asked.named,
+        ram,
+        pair.old,
+        pair.new,
+        lent.pcm,
+        lent.sheet,
+        lent.readings,
+    );
+    differs(out, (w != v) | (after != lent.held()));
+}
+
+fn tell_reworked(out: &impl Print, w: Reworked, ram: &[u8], new: &[u8], lent: &Lent) {
     lines::say(out, b"VOICES ");
     lines::hex(out, w.members);
     lines::numbered(out, b" ", w.count as u64);
-    let m = measure(new);
-    let d = w.dsp;
-    let r = Ran {
-        refusal: 0,
-        dsp: d,
-        ticks: m.ticks,
-        readings: m.readings,
+    let answer = match measure(new) {
+        Ok(m) => Ok(Ran {
+            dsp: w.dsp,
+            ticks: m.ticks,
+            readings: m.readings,
+        }),
+        Err(refusal) => Err(refusal.of(w.dsp)),
     };
-    tell(out, r, new, ram, pcm, sheet, readings);
+    tell(out, answer, new, ram, lent.pcm, lent.sheet, lent.readings);
 }

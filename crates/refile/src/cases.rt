@@ -1,14 +1,11 @@
 // The file of cases: 0 to write or 1 to read; how many bytes are lent (32 bits, low byte first); how many bytes of the source stand
 // in the file (16 bits) and how many are made behind them (32 bits); the seed of those; then the bytes that stand there.
 use crate::filed::{read, written};
-use chip_log::word;
+use report::cases::stops;
 use report::input::read_full;
-use report::lines::{numbered, say};
+use report::lines::numbered;
 use report::runs::within;
 use std::io::Read;
-
-// A file may have no end, as a device has none: no more cases than these are read.
-const CASES_MOST: u64 = 1000;
 
 const HEAD: usize = 12;
 
@@ -40,25 +37,8 @@ impl Asked {
     }
 }
 
-pub fn all<R: Read>(out: &impl Print, file: &mut R) {
-    for number in 0..CASES_MOST {
-        if !next(out, file, number + 1) {
-            return;
-        }
-    }
-}
-
-fn wide(a: u8, b: u8, c: u8, d: u8) -> u32 {
-    word(a, b) as u32 + 0x10000 * (word(c, d) as u32)
-}
-
-fn stops(out: &impl Print) -> bool {
-    say(out, b"cases stops inside a case\n");
-    false
-}
-
 // Whether there was a case.
-fn next<R: Read>(out: &impl Print, file: &mut R, number: u64) -> bool {
+pub fn next<R: Read>(out: &impl Print, file: &mut R, number: u64) -> bool {
     let mut head = [0u8; 12];
     let got = read_full(file, &mut head);
     if got == 0 {
@@ -73,9 +53,9 @@ fn next<R: Read>(out: &impl Print, file: &mut R, number: u64) -> bool {
         file,
         Asked {
             way: head[0],
-            lent: wide(head[1], head[2], head[3], head[4]),
-            front: word(head[5], head[6]),
-            fill: wide(head[7], head[8], head[9], head[10]),
+            lent: u32::from_le_bytes([head[1], head[2], head[3], head[4]]),
+            front: u16::from_le_bytes([head[5], head[6]]),
+            fill: u32::from_le_bytes([head[7], head[8], head[9], head[10]]),
             seed: head[11],
         },
     )
@@ -86,28 +66,17 @@ fn with_room<R: Read>(out: &impl Print, file: &mut R, asked: Asked) -> bool {
     let mut source = [0; 128064];
     let mut to = [0xA5; 128064];
     let mut back = [0; 128064];
-    in_room(out, file, asked, &mut source, &mut to, &mut back)
+    one(out, file, asked, &mut source, &mut to, &mut back)
 }
 
 // Behind a reference an array's length is its type's, and no check has to count its bytes.
-fn in_room<R: Read>(
+fn one<R: Read>(
     out: &impl Print,
     file: &mut R,
     asked: Asked,
     source: &mut [u8; 128064],
     to: &mut [u8; 128064],
     back: &mut [u8; 128064],
-) -> bool {
-    one(out, file, asked, source, to, back)
-}
-
-fn one<R: Read>(
-    out: &impl Print,
-    file: &mut R,
-    asked: Asked,
-    source: &mut [u8],
-    to: &mut [u8],
-    back: &mut [u8],
 ) -> bool {
     if !asked.fits() {
         return stops(out);
@@ -130,8 +99,7 @@ fn filled<R: Read>(
         return stops(out);
     }
     make(asked.seed, &mut source[front..]);
-    let way = asked.way;
-    match way {
+    match asked.way {
         WRITE => written(out, source, to, back),
         READ => read(out, source, to, back),
         _ => stops(out),
@@ -140,9 +108,7 @@ fn filled<R: Read>(
 
 // Byte k is seed + 31k + k / 256, modulo 256.
 fn make(seed: u8, to: &mut [u8]) {
-    let mut k: usize = 0;
-    while k < to.len() {
-        to[k] = ((seed as usize + 31 * (k % 256) + k / 256 % 256) % 256) as u8;
-        k += 1;
+    for (k, byte) in to.iter_mut().enumerate() {
+        *byte = ((seed as usize + 31 * (k % 256) + k / 256 % 256) % 256) as u8;
     }
 }

@@ -68,10 +68,6 @@ by_none : (l : List ℕ) → verdict_by l ≡ Nothing → length l ≡ 0
 by_none [] e = refl
 by_none (n ∷ ns) e = let z : ◌≡◌ {A = ℕ} 0 1 = cc in absurd (omega arith)
 
-pub none_by : (l : List ℕ) → length l ≡ 0 → verdict_by l ≡ Nothing
-none_by [] e = refl
-none_by (n ∷ ns) e = absurd (omega (arith, e))
-
 pub nothing_is-equal : NothingIsEqual
 nothing_is-equal before after =
     (λ e. unchanged 1 before after (by_none (changed before after) e), λ e. ap (λ (l : List ℕ). verdict_of before l) (sym e) ∙ ap verdict_by (equal_from 1 before))
@@ -85,14 +81,5 @@ by_some (n ∷ ns) h = refl
 pub unequal : (before after : List ℕ) → (before ≡ after → ⊥) → Changed ≡ verdict_of before after
 unequal before after h = by_some (changed before after) (λ e. h (unchanged 1 before after e))
 
-pub same_self : (readings : List ℕ) → same readings readings ≡ length readings
-unfolding same
-same_self [] = refl
-same_self (r ∷ rs) = let h = same_self rs in rw (eq-eqb r r refl) (omega (arith, h))
-
--- as many are as before as there are
-pub all_same : (before after : List ℕ) → length before ≡ length after → same before after ≡ length before → Nothing ≡ verdict_of before after
-all_same before after l s =
-    let g : greatest (length before) (length after) ≡ length after = rw (le-leb (length before) (length after) (omega (arith, l))) in
-    let e : length (changed before after) ≡ 0 = omega (arith, each_is-told before after, g, l, s) in
-    sym (none_by (changed before after) e)
+pub equal : (before after : List ℕ) → before ≡ after → Nothing ≡ verdict_of before after
+equal before after e = sym ((nothing_is-equal before after).1 e)

@@ -1,5 +1,5 @@
 -- The program's answer: the old log run from power-on and reworked to the new one, and the readings of both compared.
-use Rattle.std.specs.Prelude.{Bool, true, false, List, ◌++◌, ℕ, length, take, drop, if◌then◌else◌}
+use Rattle.std.specs.Prelude.{Bool, true, false, List, ◌++◌, ℕ, length, take, drop, Result, Ok, Err, if◌then◌else◌}
 use Rattle.numbers.specs.Bytes.{copied}
 use Rattle.numbers.specs.Choice.{◌=?◌}
 use Rattle.numbers.specs.Unsigned.{least}
@@ -8,10 +8,14 @@ use Rattle.dsp.specs.declared.registers.Dsp.{Dsp}
 use Rattle.chip_log.specs.Measure.{measure_of}
 use Rattle.dsp.specs.Run.{Outcome}
 use Rattle.rework.specs.Rework.{Left, rework_of}
+use Rattle.rework.specs.declared.reworking.Reworked.{Reworked}
 use Rattle.report.specs.Runs.{room_in, run_cut, registers_in}
 use Rattle.report.specs.declared.runs.Room.{Room}
 use Rattle.remark.specs.Marking.{same, changed, verdict_of}
 use Rattle.remark.specs.declared.marking.Verdict.{Verdict}
+use Rattle.remark.specs.declared.answer.Unworked.{Unworked}
+use Rattle.remark.specs.declared.answer.Unworked.TheVariants.{Old, New}
+use Rattle.refusal.specs.Refusal.{number}
 
 -- ---- a rework that is lent the first bytes of each slice, as many as the new log needs; what stands behind them stays
 
@@ -49,6 +53,15 @@ pub record Both : Type 0 where
   pub sheet : List ℕ
   pub before : List ℕ
   pub after : List ℕ
+
+-- an answer, with what it leaves in the lent slices, in these words
+abbrev pub both : Result Reworked Unworked → List ℕ → List ℕ → List ℕ → List ℕ → List ℕ → Both
+both (Ok w) own pcm sheet before after =
+    record { refusal = 0; of_old = false; members = w.members; count = w.count; own = own; pcm = pcm; sheet = sheet; before = before; after = after }
+both (Err (Old r)) own pcm sheet before after =
+    record { refusal = number r; of_old = true; members = 0; count = 0; own = own; pcm = pcm; sheet = sheet; before = before; after = after }
+both (Err (New r)) own pcm sheet before after =
+    record { refusal = number r; of_old = false; members = 0; count = 0; own = own; pcm = pcm; sheet = sheet; before = before; after = after }
 
 abbrev pub unplayed : Outcome → List ℕ → Both
 unplayed o after =

@@ -1,21 +1,19 @@
 // The answer: the old log played from power-on and reworked to the new one, and the readings of both compared.
 ghost use Rattle.std.specs.Prelude.{◌≡◌};
-ghost use Rattle.rework.specs.Rework.{Left};
-ghost use Rattle.remark.specs.Answer.{rework_cut, Both, both_of, Judged as JudgedOf, judge_of, Answer as AnswerOf, answer_of};
+ghost use Rattle.rework.specs.Rework.{left};
+ghost use Rattle.remark.specs.Answer.{rework_cut, both, both_of, Judged as JudgedOf, judge_of, Answer as AnswerOf, answer_of};
 
 use crate::marking::{Verdict, changed, same, verdict_of};
-use chip_log::measure;
 use dsp::Dsp;
-use report::runs::{registers_read, room_for, run_cut, within};
+use refusal::{Refusal, Refused};
+use report::runs::{registers_read, room_of, run_cut, within};
 use rework::{Reworked, rework};
 
-// The refusal, and whether it is the old log's own; the set of voices that were worked, and their number.
+// Why nothing was worked: the old log's own run was refused, or the rework.
 #[derive(Clone, Copy)]
-pub struct Worked {
-    pub refusal: u8,
-    pub of_old: bool,
-    pub members: u8,
-    pub count: u32,
+pub enum Unworked {
+    Old(Refusal),
+    New(Refusal),
 }
 
 // How many readings there are, how many are as before, and how many of the others are listed.
@@ -29,11 +27,12 @@ pub struct Judged {
 
 #[derive(Clone, Copy)]
 pub struct Answer {
-    pub worked: Worked,
+    pub worked: Result<Reworked, Unworked>,
     pub judged: Judged,
 }
 
 // Lends what the new log needs; were there less, the rework would refuse by 10.
+#[tactic(auto, unfolding(crate::specs::Answer::rework_cut))]
 fn rework_cut(
     named: u8,
     end: Dsp,
@@ -43,11 +42,10 @@ fn rework_cut(
     pcm: &mut [u8],
     sheet: &mut [u8],
     readings: &mut [u8],
-) -> Reworked
-    ensures { ◌≡◌ {A = Left} (record { refusal = result.refusal; dsp = result.dsp; members = result.members; count = result.count; pcm = pcm.new; sheet = sheet.new; readings = readings.new }) (rework_cut named end ram.now old.now new.now pcm.old sheet.old readings.old) }
+) -> Result<Reworked, Refused<Dsp>>
+    ensures { left result pcm.new sheet.new readings.new ≡ rework_cut named end ram.now old.now new.now pcm.old sheet.old readings.old }
 {
-    let m = measure(new);
-    let n = room_for(m.ticks, m.readings).within(pcm.len(), sheet.len(), readings.len());
+    let n = room_of(new).within(pcm.len(), sheet.len(), readings.len());
     rework(
         named,
         Dsp::new(),
@@ -62,6 +60,7 @@ fn rework_cut(
 }
 
 // The old log has a RAM of its own.
+#[tactic(auto, unfolding(crate::specs::Answer::both_of))]
 fn work(
     named: u8,
     ram: &[u8],
@@ -72,29 +71,21 @@ fn work(
     sheet: &mut [u8],
     before: &mut [u8],
     after: &mut [u8],
-) -> Worked
-    ensures { ◌≡◌ {A = Both} (record { refusal = result.refusal; of_old = result.of_old; members = result.members; count = result.count; own = own.new; pcm = pcm.new; sheet = sheet.new; before = before.new; after = after.new }) (both_of named ram.now own.old old.now new.now pcm.old sheet.old before.old after.old) }
+) -> Result<Reworked, Unworked>
+    ensures { both result own.new pcm.new sheet.new before.new after.new ≡ both_of named ram.now own.old old.now new.now pcm.old sheet.old before.old after.old }
 {
-    let first = run_cut(true, Dsp::new(), own, old, pcm, sheet, before);
-    if first.refusal != 0 {
-        return Worked {
-            refusal: first.refusal,
-            of_old: true,
-            members: 0,
-            count: 0,
-        };
-    }
-    let end = first.dsp;
-    let w = rework_cut(named, end, ram, old, new, pcm, sheet, after);
-    Worked {
-        refusal: w.refusal,
-        of_old: false,
-        members: w.members,
-        count: w.count,
+    let end = match run_cut(None, own, old, pcm, sheet, before) {
+        Ok(first) => first.dsp,
+        Err(e) => return Err(Unworked::Old(e.refusal)),
+    };
+    match rework_cut(named, end, ram, old, new, pcm, sheet, after) {
+        Ok(w) => Ok(w),
+        Err(e) => Err(Unworked::New(e.refusal)),
     }
 }
 
 // As many readings as the new log has.
+#[tactic(auto, unfolding(crate::specs::Answer::judge_of), using(crate::proofs::Answers::take_least))]
 fn judge(
     new: &[u8],
     before: &[u8],
@@ -116,6 +107,7 @@ fn judge(
     }
 }
 
+#[tactic(auto, unfolding(crate::specs::Answer::answer_of))]
 pub fn answered(
     named: u8,
     ram: &[u8],
@@ -129,7 +121,7 @@ pub fn answered(
     registers: &mut [u8],
     numbers: &mut [u64],
 ) -> Answer
-    ensures { ◌≡◌ {A = AnswerOf} (record { both = record { refusal = result.worked.refusal; of_old = result.worked.of_old; members = result.worked.members; count = result.worked.count; own = own.new; pcm = pcm.new; sheet = sheet.new; before = before.new; after = after.new }; judged = record { readings = result.judged.readings; same = result.judged.same; listed = result.judged.listed; verdict = result.judged.verdict; registers = registers.new; numbers = numbers.new } }) (answer_of named ram.now own.old old.now new.now pcm.old sheet.old before.old after.old registers.old numbers.old) }
+    ensures { ◌≡◌ {A = AnswerOf} (record { both = both result.worked own.new pcm.new sheet.new before.new after.new; judged = record { readings = result.judged.readings; same = result.judged.same; listed = result.judged.listed; verdict = result.judged.verdict; registers = registers.new; numbers = numbers.new } }) (answer_of named ram.now own.old old.now new.now pcm.old sheet.old before.old after.old registers.old numbers.old) }
 {
     let w = work(named, ram, own, old, new, pcm, sheet, before, after);
     let j = judge(new, before, after, registers, numbers);

@@ -8,8 +8,10 @@ mod marking;
 mod telling;
 mod words;
 
+use answer::Unworked;
+use refusal::Refusal;
 use report::input;
-use report::input::Loaded;
+use report::input::Unloaded;
 use report::lines::complain;
 
 fn main(rt: HostRuntime) {
@@ -17,45 +19,39 @@ fn main(rt: HostRuntime) {
     let loaded = input::load(&rt, &mut ram);
     let mut own = ram;
     match loaded {
-        Loaded::Whole => with_ram(&rt, &ram, &mut own),
-        Loaded::OtherLength => told(&rt, words::refused(&rt, 1, false)),
-        Loaded::Unreadable => complain(&rt.stderr(), b"remark: cannot read ram.bin\n"),
+        Ok(()) => with_ram(&rt, &ram, &mut own),
+        Err(Unloaded::OtherLength) => told(
+            &rt,
+            words::refused(&rt, Unworked::New(Refusal::RamSize)),
+        ),
+        Err(Unloaded::Unreadable) => complain(&rt.stderr(), b"remark: cannot read ram.bin\n"),
     }
 }
 
 fn with_ram(rt: &HostRuntime, ram: &[u8], own: &mut [u8]) {
     let mut named = [0u8; 2];
-    let took = input::file(rt, b"named.bin", &mut named);
-    if took.failed {
-        complain(&rt.stderr(), b"remark: cannot read named.bin\n");
-    } else if took.size != 1 {
-        complain(&rt.stderr(), b"remark: named.bin is not one byte\n");
-    } else {
-        with_named(rt, ram, own, named[0]);
+    match input::file(rt, b"named.bin", &mut named) {
+        Some(1) => with_named(rt, ram, own, named[0]),
+        Some(_) => complain(&rt.stderr(), b"remark: named.bin is not one byte\n"),
+        None => complain(&rt.stderr(), b"remark: cannot read named.bin\n"),
     }
 }
 
 // One byte more than a log may have: input without an end is over the limit, and no more of it is read.
 fn with_named(rt: &HostRuntime, ram: &[u8], own: &mut [u8], named: u8) {
     let mut old = [0u8; 60001];
-    let took = input::file(rt, b"old.bin", &mut old);
-    if took.failed {
-        complain(&rt.stderr(), b"remark: cannot read old.bin\n");
-        return;
+    match input::file(rt, b"old.bin", &mut old) {
+        Some(n) => with_old(rt, ram, own, named, &old[..n]),
+        None => complain(&rt.stderr(), b"remark: cannot read old.bin\n"),
     }
-    let n = took.size;
-    with_old(rt, ram, own, named, &old[..n]);
 }
 
 fn with_old(rt: &HostRuntime, ram: &[u8], own: &mut [u8], named: u8, old: &[u8]) {
     let mut new = [0u8; 60001];
-    let took = input::fill(&mut rt.stdin(), &mut new);
-    if took.failed {
-        complain(&rt.stderr(), b"remark: cannot read standard input\n");
-        return;
+    match input::fill(&mut rt.stdin(), &mut new) {
+        Some(n) => told(rt, telling::told(rt, named, ram, own, old, &new[..n])),
+        None => complain(&rt.stderr(), b"remark: cannot read standard input\n"),
     }
-    let n = took.size;
-    told(rt, telling::told(rt, named, ram, own, old, &new[..n]));
 }
 
 // Whether all lines went out.

@@ -15,14 +15,14 @@ pub enum Verdict {
 fn greatest(a: usize, b: usize) -> usize
     ensures { result ≡ greatest_of a b }
 {
-    if a <= b { b } else { a }
+    a.max(b)
 }
 
 // 1 for a reading that has the value that it had.
 fn kept(was: u8, is: u8) -> u64
     ensures { (result ≡ kept_of was is) × (result ≤ 1) }
 {
-    if was == is { 1 } else { 0 }
+    (was == is) as u64
 }
 
 // How many are as before.
@@ -31,10 +31,8 @@ pub fn same(before: &[u8], after: &[u8]) -> u64
 {
     let n = least(before.len(), after.len());
     let mut count: u64 = 0;
-    let mut i: usize = 0;
-    while i < n {
+    for i in 0..n {
         count += kept(before[i], after[i]);
-        i += 1;
     }
     count
 }
@@ -43,13 +41,10 @@ pub fn same(before: &[u8], after: &[u8]) -> u64
 fn same_at(before: &[u8], after: &[u8], i: usize) -> bool
     ensures { result ≡ same_at before.now after.now i }
 {
-    if before.len() <= i {
-        return false;
+    match (before.get(i), after.get(i)) {
+        (Some(was), Some(is)) => was == is,
+        _ => false,
     }
-    if after.len() <= i {
-        return false;
-    }
-    before[i] == after[i]
 }
 
 // The running numbers of those that have changed, from 1, as many as there is room for.
@@ -58,8 +53,7 @@ pub fn changed(before: &[u8], after: &[u8], to: &mut [u64]) -> usize
 {
     let n = greatest(before.len(), after.len());
     let mut put: usize = 0;
-    let mut i: usize = 0;
-    while i < n {
+    for i in 0..n {
         if put == to.len() {
             return put;
         }
@@ -67,7 +61,6 @@ pub fn changed(before: &[u8], after: &[u8], to: &mut [u64]) -> usize
             to[put] = i as u64 + 1;
             put += 1;
         }
-        i += 1;
     }
     put
 }
@@ -75,10 +68,7 @@ pub fn changed(before: &[u8], after: &[u8], to: &mut [u64]) -> usize
 pub fn verdict_of(before: &[u8], after: &[u8]) -> Verdict
     ensures { result ≡ verdict_of before.now after.now }
 {
-    if before.len() != after.len() {
-        return Verdict::Changed;
-    }
-    if same(before, after) == before.len() as u64 {
+    if before == after {
         return Verdict::Nothing;
     }
     Verdict::Changed

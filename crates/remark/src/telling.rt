@@ -19,7 +19,7 @@ pub fn told(
     let mut sheet = [0; 1152000];
     let mut before = [0; 20000];
     let mut after = [0; 20000];
-    told_in(
+    told_on(
         out,
         named,
         ram,
@@ -34,7 +34,7 @@ pub fn told(
 }
 
 // Behind a reference an array's length is its type's, and no check has to count a million bytes.
-fn told_in(
+fn told_on(
     out: &impl Print,
     named: u8,
     ram: &[u8],
@@ -45,21 +45,6 @@ fn told_in(
     sheet: &mut [u8; 1152000],
     before: &mut [u8; 20000],
     after: &mut [u8; 20000],
-) -> bool {
-    told_on(out, named, ram, own, old, new, pcm, sheet, before, after)
-}
-
-fn told_on(
-    out: &impl Print,
-    named: u8,
-    ram: &[u8],
-    own: &mut [u8],
-    old: &[u8],
-    new: &[u8],
-    pcm: &mut [u8],
-    sheet: &mut [u8],
-    before: &mut [u8],
-    after: &mut [u8],
 ) -> bool {
     let mut registers = [0u8; 20000];
     let mut numbers = [0u64; 20000];
@@ -88,13 +73,13 @@ fn tell(
     after: &[u8],
     numbers: &[u64],
 ) -> bool {
-    let w = answer.worked;
-    if w.refusal != 0 {
-        return words::refused(out, w.refusal, w.of_old);
+    match answer.worked {
+        Ok(w) => {
+            words::sets(out, named, w.members, w.count)
+                && tell_judged(out, answer.judged, registers, before, after, numbers)
+        }
+        Err(why) => words::refused(out, why),
     }
-    let j = answer.judged;
-    words::sets(out, named, w.members, w.count)
-        && tell_judged(out, j, registers, before, after, numbers)
 }
 
 // A line for each reading; the last line goes out whether they did or not.
@@ -109,8 +94,7 @@ fn tell_judged(
     let n = within(j.readings, registers);
     let listed = least(j.listed, numbers.len());
     let went = tell_readings(out, &registers[..n], before, after, &numbers[..listed]);
-    let verdict = j.verdict;
-    words::verdict(out, j.same, j.readings as u64, verdict) && went
+    words::verdict(out, j.same, j.readings as u64, j.verdict) && went
 }
 
 // By the list of those that have changed: its next number is this reading's, or this reading is as before.
@@ -124,13 +108,17 @@ fn tell_readings(
     let n = least(registers.len(), least(before.len(), after.len()));
     let mut went = true;
     let mut next: usize = 0;
-    let mut i: usize = 0;
-    while i < n {
+    for i in 0..n {
         let running = i as u64 + 1;
         let is_next = is_at(changed, next, running);
-        went = words::reading(out, running, registers[i], before[i], after[i], is_next) & went;
+        went = words::reading(
+            out,
+            running,
+            registers[i],
+            after[i],
+            is_next.then_some(before[i]),
+        ) & went;
         next = behind(next, is_next);
-        i += 1;
     }
     went
 }
@@ -145,8 +133,5 @@ fn behind(at: usize, is_next: bool) -> usize
 fn is_at(numbers: &[u64], at: usize, number: u64) -> bool
     ensures { result ≡ is_at numbers.now at number }
 {
-    if numbers.len() <= at {
-        return false;
-    }
-    numbers[at] == number
+    numbers.get(at) == Some(&number)
 }

@@ -1,12 +1,14 @@
 // The answer in words. Each answers whether it went out.
+use crate::answer::Unworked;
 use crate::marking::Verdict;
 use numbers::bit;
+use refusal::Refusal;
 use report::lines;
 use report::lines::{number, say};
 
 // As `voices 3, 4`.
 fn voices(out: &impl Print, set: u8) -> bool {
-    let count = u8::count_ones(set);
+    let count = set.count_ones();
     if count == 0 {
         return say(out, b"no voice");
     }
@@ -16,13 +18,11 @@ fn voices(out: &impl Print, set: u8) -> bool {
         say(out, b"voices")
     };
     let mut some = false;
-    let mut voice: usize = 0;
-    while voice < 8 {
+    for voice in 0..8 {
         if bit(set, voice) {
             went = one_more(out, some, voice as u64) & went;
             some = true;
         }
-        voice += 1;
     }
     went
 }
@@ -49,24 +49,18 @@ pub fn sets(out: &impl Print, named: u8, members: u8, count: u32) -> bool {
         && say(out, b"\n")
 }
 
-pub fn reading(
-    out: &impl Print,
-    running: u64,
-    register: u8,
-    was: u8,
-    is: u8,
-    has_changed: bool,
-) -> bool {
+// With what it was where it has changed.
+pub fn reading(out: &impl Print, running: u64, register: u8, is: u8, was: Option<u8>) -> bool {
     let went = say(out, b"Reading ")
         && number(out, running)
         && say(out, b", register ")
         && lines::hex(out, register)
         && say(out, b": ")
         && lines::hex(out, is);
-    if has_changed {
-        return went && say(out, b", was ") && lines::hex(out, was) && say(out, b"\n");
+    match was {
+        Some(value) => went && say(out, b", was ") && lines::hex(out, value) && say(out, b"\n"),
+        None => went && say(out, b", as before\n"),
     }
-    went && say(out, b", as before\n")
 }
 
 pub fn verdict(out: &impl Print, same: u64, all: u64, verdict: Verdict) -> bool {
@@ -86,18 +80,24 @@ pub fn verdict(out: &impl Print, same: u64, all: u64, verdict: Verdict) -> bool 
 }
 
 // The number, and what it says; of 3 to 9 also of which log.
-pub fn refused(out: &impl Print, refusal: u8, of_old: bool) -> bool {
+pub fn refused(out: &impl Print, why: Unworked) -> bool {
+    let (log, refusal) = match why {
+        Unworked::Old(refusal) => (b"The old log ", refusal),
+        Unworked::New(refusal) => (b"The new log ", refusal),
+    };
     if !lines::refused(out, refusal) {
         return false;
     }
+    if let Some(words) = malformed(refusal) {
+        return say(out, log) && say(out, words);
+    }
     match refusal {
-        1 => say(out, b"The RAM image is not 65,536 bytes.\n"),
-        3..=9 => whose(out, of_old) && malformed(out, refusal),
-        11 => say(
+        Refusal::RamSize => say(out, b"The RAM image is not 65,536 bytes.\n"),
+        Refusal::EchoWrites => say(
             out,
             b"Echo writing is on at some tick, so that a voice can overwrite the memory that every voice plays from: the whole sitting has to be marked again.\n",
         ),
-        12 => say(
+        Refusal::LogsDiffer => say(
             out,
             b"The logs differ outside the named voices' own registers: the whole sitting has to be marked again.\n",
         ),
@@ -108,25 +108,16 @@ pub fn refused(out: &impl Print, refusal: u8, of_old: bool) -> bool {
     }
 }
 
-fn whose(out: &impl Print, of_old: bool) -> bool {
-    if of_old {
-        say(out, b"The old log ")
-    } else {
-        say(out, b"The new log ")
-    }
-}
-
-fn malformed(out: &impl Print, refusal: u8) -> bool {
+// What is wrong with a log, of 3 to 9.
+fn malformed(refusal: Refusal) -> Option<&'static [u8]> {
     match refusal {
-        3 => say(out, b"is over 60,000 bytes.\n"),
-        4 => say(out, b"has an unknown mark.\n"),
-        5 => say(out, b"stops inside a mark or a record.\n"),
-        6 => say(out, b"names a register above $7F.\n"),
-        7 => say(
-            out,
-            b"has a tick count of 0, or over 32,000 ticks in all.\n",
-        ),
-        8 => say(out, b"stops with no end record.\n"),
-        _ => say(out, b"has bytes behind its end record.\n"),
+        Refusal::LogTooLong => Some(b"is over 60,000 bytes.\n"),
+        Refusal::UnknownMark => Some(b"has an unknown mark.\n"),
+        Refusal::CutShort => Some(b"stops inside a mark or a record.\n"),
+        Refusal::NoRegister => Some(b"names a register above $7F.\n"),
+        Refusal::TickCount => Some(b"has a tick count of 0, or over 32,000 ticks in all.\n"),
+        Refusal::NoEnd => Some(b"stops with no end record.\n"),
+        Refusal::BehindEnd => Some(b"has bytes behind its end record.\n"),
+        _ => None,
     }
 }

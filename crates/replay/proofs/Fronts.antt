@@ -3,10 +3,10 @@ use mathlib.Core.Bool.{true, false}
 use mathlib.Core.List.{List}
 use mathlib.Core.Path.{◌≡◌, refl, ap}
 use Prim.Native.Nat.{ℕ, suc, ◌+◌, ◌-◌, ◌*◌, ◌/◌, ◌≤◌, ◌<◌}
-use native.Mathlib.Nat.{mul-le-mul_right, div-mul-le_self, div-le_self, add-mul}
+use native.Mathlib.Nat.{mul-le-mul_right, div-mul-le_self, add-mul}
 use native.Mathlib.Numerals.{add-one}
 use native.Mathlib.Omega.{arith}
-use lib.ListN.{length, take, drop, length-take}
+use lib.ListN.{length, take, drop}
 use borrow.Author.Count.{below_more}
 use Rattle.dsp.specs.Noise.{Noise}
 use Rattle.replay.specs.Noise.{Check}
@@ -20,10 +20,6 @@ added a n = omega arith
 -- record k of size n lies within m bytes
 pub room : (k n m : ℕ) → k < m / n → k * n + n ≤ m
 room k n m h = let l : suc k * n ≤ m / n * n = mul-le-mul_right n h in omega (arith, div-mul-le_self m n, add-mul k 1 n)
-
--- of n bytes no more than n records are counted
-pub upto : (a n m : ℕ) (xs : List ℕ) → a ≤ length (take n xs) / m → a ≤ n
-upto a n m xs h = omega (arith, length-take n xs, div-le_self (length (take n xs)) m)
 
 module _ (leaf : Leaf) (part : List ℕ) (carry : Noise) where
   -- k records are equal, and h is handed to the next

@@ -2,8 +2,8 @@
 use Rattle.std.specs.Prelude.{Bool, true, not, ◌&&◌, List, ℕ, zero, suc, ◌+◌, ◌*◌, ℤ, pos, get_or, take, drop, replicate, set, if◌then◌else◌}
 use Rattle.numbers.specs.Choice.{◌≤?◌, ◌=?◌}
 use Rattle.numbers.specs.Unsigned.{wrapped}
+use Rattle.dsp.specs.Registers.{Written}
 use Rattle.dsp.specs.declared.voice.Voice.{Voice}
-use Rattle.dsp.specs.declared.registers.Answer.{Answer}
 use Rattle.replay.specs.Records.{u8_at, u16_at, i16_at, ◌=ℤ?◌}
 use Rattle.replay.specs.Machine.{zeros, steady, playback, playing, answered, sound_of}
 
@@ -28,7 +28,7 @@ flags_equal flags end on =
 abbrev pub ram_of : List ℕ → List ℕ
 ram_of r = laid (take 2 r) (wrapped (u16_at r 0 + 0x100)) 2 (laid (take 9 (drop 2 r)) (u16_at r 0) 9 zeros)
 
-unfoldable pub played_block : List ℕ → Answer
+unfoldable pub played_block : List ℕ → Written
 played_block r =
     answered (playing steady (playback (wrapped (u16_at r 0 + 0x100)) (i16_at r 11) (i16_at r 13) 0) 0 (replicate 4 (pos 0))) (ram_of r)
 
@@ -37,7 +37,7 @@ voice_says v r =
     samples_equal v.brr.sample_buffer r 16 && (v.brr.prev1 =ℤ? i16_at r 47) && (v.brr.prev2 =ℤ? i16_at r 49)
     && flags_equal (u8_at r 51) v.brr.block_end v.key_on
 
-abbrev pub block_says : Answer → List ℕ → Bool
+abbrev pub block_says : Written → List ℕ → Bool
 block_says a r = (a.refusal =? 0) && voice_says (sound_of a.dsp) r
 
 -- address, nine bytes, prev1, prev2 | 16 samples, prev1, prev2, flags

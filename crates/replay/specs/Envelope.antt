@@ -1,10 +1,10 @@
 -- What a record of the envelope must say.
 use Rattle.std.specs.Prelude.{Bool, ◌&&◌, List, ℕ, pos, replicate, if◌then◌else◌}
 use Rattle.numbers.specs.Choice.{◌≤?◌, ◌=?◌}
+use Rattle.dsp.specs.Registers.{Written}
 use Rattle.dsp.specs.declared.adsr.EnvelopePhase.{EnvelopePhase}
 use Rattle.dsp.specs.declared.adsr.EnvelopePhase.TheVariants.{Attack, Decay, Sustain, Release, Off}
 use Rattle.dsp.specs.declared.adsr.Adsr.{Adsr}
-use Rattle.dsp.specs.declared.registers.Answer.{Answer}
 use Rattle.replay.specs.Records.{u8_at, u16_at}
 use Rattle.replay.specs.Machine.{zeros, playback, playing, answered, sound_of}
 
@@ -47,7 +47,7 @@ envelope_says e r =
     (e.envelope_level =? u16_at r 11) && (phase_number e.envelope_phase =? u8_at r 13) && (e.tick_counter =? u16_at r 14)
 
 -- a tick refuses a record that is not fit
-abbrev pub answer_says : Answer → List ℕ → Bool
+abbrev pub answer_says : Written → List ℕ → Bool
 answer_says a r = (a.refusal =? 0) && typed r && envelope_says (sound_of a.dsp).adsr r
 
 unfoldable pub envelope_equal : List ℕ → Bool

@@ -1,5 +1,5 @@
 -- What a record of each leaf must say, how long it is, and what it hands on.
-use Rattle.std.specs.Prelude.{Bool, List, ℕ}
+use Rattle.std.specs.Prelude.{Bool, List, ℕ, ℤ}
 use Rattle.dsp.specs.Noise.{Noise}
 use Rattle.dsp.specs.PowerOn.{new_dsp}
 use Rattle.dsp.specs.Brr.{decode_nibble}
@@ -22,9 +22,12 @@ record_size Noisy = 3
 abbrev pub started : Noise
 started = carry_of new_dsp
 
+abbrev pub decoded : List ℕ → ℤ
+decoded r = decode_nibble (i8_at r 0) (u8_at r 1) (u8_at r 2) (i16_at r 3) (i16_at r 5)
+
 -- nibble, shift, filter, prev1, prev2 | sample
 unfoldable pub nibble_equal : List ℕ → Bool
-nibble_equal r = decode_nibble (i8_at r 0) (u8_at r 1) (u8_at r 2) (i16_at r 3) (i16_at r 5) =ℤ? i16_at r 7
+nibble_equal r = decoded r =ℤ? i16_at r 7
 
 abbrev pub check_of : Leaf → List ℕ → Noise → Check
 check_of Nibble r carry = record { equal = nibble_equal r; carry = carry }

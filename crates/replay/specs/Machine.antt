@@ -2,12 +2,12 @@
 use Rattle.std.specs.Prelude.{true, false, List, ℕ, ℤ, pos, get_or, replicate, set}
 use Rattle.dsp.specs.Machine.{no_voice, globals_of, together}
 use Rattle.dsp.specs.PowerOn.{new_dsp}
+use Rattle.dsp.specs.Registers.{Written}
 use Rattle.dsp.specs.Ticks.{After, step_of}
 use Rattle.dsp.specs.declared.adsr.EnvelopePhase.TheVariants.{Attack}
 use Rattle.dsp.specs.declared.adsr.Adsr.{Adsr}
 use Rattle.dsp.specs.declared.brr.Brr.{Brr}
 use Rattle.dsp.specs.declared.voice.Voice.{Voice}
-use Rattle.dsp.specs.declared.registers.Answer.{Answer}
 use Rattle.dsp.specs.declared.registers.Dsp.{Dsp}
 
 unfoldable pub zeros : List ℕ
@@ -68,10 +68,10 @@ with_first d v =
       globals = globals_of d;
     })
 
-abbrev pub as_answer : After → Answer
+abbrev pub as_answer : After → Written
 as_answer a = record { refusal = a.refusal; dsp = a.dsp }
 
-unfoldable pub answered : Voice → List ℕ → Answer
+unfoldable pub answered : Voice → List ℕ → Written
 answered v ram = as_answer (step_of (with_first new_dsp v) ram)
 
 abbrev pub sound_of : Dsp → Voice

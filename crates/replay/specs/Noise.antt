@@ -4,8 +4,8 @@ use Rattle.numbers.specs.Choice.{◌=?◌}
 use Rattle.dsp.specs.Noise.{Noise}
 use Rattle.dsp.specs.Machine.{Globals, globals_of, together}
 use Rattle.dsp.specs.PowerOn.{new_dsp}
+use Rattle.dsp.specs.Registers.{Written}
 use Rattle.dsp.specs.Ticks.{step_of}
-use Rattle.dsp.specs.declared.registers.Answer.{Answer}
 use Rattle.dsp.specs.declared.registers.Dsp.{Dsp}
 use Rattle.replay.specs.Records.{u8_at, i16_at, ◌=ℤ?◌}
 use Rattle.replay.specs.Machine.{zeros, as_answer, sound_of}
@@ -56,11 +56,11 @@ with_noise flg n d =
       globals = noisy_globals flg n (globals_of d);
     })
 
-unfoldable pub noisy_answer : ℕ → Noise → Answer
+unfoldable pub noisy_answer : ℕ → Noise → Written
 noisy_answer flg n = as_answer (step_of (with_noise flg n new_dsp) zeros)
 
 -- FLG | sample
-abbrev pub noise_says : Answer → List ℕ → Check
+abbrev pub noise_says : Written → List ℕ → Check
 noise_says a r =
     record {
       equal = (a.refusal =? 0) && ((sound_of a.dsp).current_sample =ℤ? i16_at r 1);

@@ -1,34 +1,34 @@
 // A record of a block: address, nine bytes, prev1, prev2 | 16 samples, prev1, prev2, flags. RAM is 0 elsewhere, but
 // for the directory entry through which a voice comes to the block.
 ghost use Rattle.std.specs.Prelude.{◌≡◌, ◌≤◌, length};
+ghost use Rattle.dsp.specs.Registers.{Written};
+ghost use Rattle.refusal.specs.Refusal.{told, handed};
 ghost use Rattle.replay.specs.Block.{laid, samples_equal, flags_equal, played_block, voice_says, block_equal};
 
 use crate::machine::{empty_ram, keyed_on, playback, sound, steady, tick};
 use crate::records::{byte_at, i16_at, is_i16_at, u16_at};
-use dsp::{Answer, Brr, Voice};
+use dsp::{Answer, Voice};
 
 // "Every byte address in RAM wraps at 65,536" (document 01).
+#[tactic(auto, unfolding(crate::specs::Block::laid))]
 fn lay(ram: &mut [u8], at: u16, part: &[u8])
     requires { (length ram.old ≡ 0x10000) × (length part.now ≤ 9) }
     ensures { ram.new ≡ laid part.now at (length part.now) ram.old }
 {
-    let mut k: usize = 0;
-    while k < part.len() {
-        let to = numbers::wrapping_add16(at, k as u16) as usize;
-        ram[to] = byte_at(part, k);
-        k += 1;
+    for k in 0..part.len() {
+        let to = at.wrapping_add(k as u16) as usize;
+        ram[to] = part[k];
     }
 }
 
+#[tactic(auto, unfolding(crate::specs::Block::samples_equal))]
 fn samples_equal(samples: &[i16], bytes: &[u8]) -> bool
     requires { (length samples.now ≡ 16) × (length bytes.now ≡ 52) }
     ensures { result ≡ samples_equal samples.now bytes.now 16 }
 {
     let mut equal = true;
-    let mut k: usize = 0;
-    while k < 16 {
+    for k in 0..16 {
         equal = equal & is_i16_at(samples[k], bytes, 15 + k * 2);
-        k += 1;
     }
     equal
 }
@@ -44,16 +44,11 @@ fn flags_equal(flags: u8, end: bool, on: bool) -> bool
     }
 }
 
-fn buffer(b: Brr) -> [i16; 16]
-    ensures { result ≡ b.sample_buffer }
-{
-    b.sample_buffer
-}
-
 // The entry lies past the block: $100 after its start, and the block has nine bytes.
+#[tactic(auto, unfolding(crate::specs::Block::played_block))]
 fn played(bytes: &[u8]) -> Answer
     requires { length bytes.now ≡ 52 }
-    ensures { result ≡ played_block bytes.now }
+    ensures { ◌≡◌ {A = Written} (record { refusal = told result; dsp = handed result }) (played_block bytes.now) }
 {
     let addr = u16_at(bytes, 0);
     let entry = numbers::wrapping_add16(addr, 0x100);
@@ -68,20 +63,16 @@ fn says(v: Voice, bytes: &[u8]) -> bool
     requires { length bytes.now ≡ 52 }
     ensures { result ≡ voice_says v bytes.now }
 {
-    let b = v.brr;
-    let samples = buffer(b);
-    samples_equal(&samples, bytes)
-        & is_i16_at(b.prev1, bytes, 47)
-        & is_i16_at(b.prev2, bytes, 49)
-        & flags_equal(byte_at(bytes, 51), b.block_end, v.key_on)
+    samples_equal(&v.brr.sample_buffer, bytes)
+        & is_i16_at(v.brr.prev1, bytes, 47)
+        & is_i16_at(v.brr.prev2, bytes, 49)
+        & flags_equal(byte_at(bytes, 51), v.brr.block_end, v.key_on)
 }
 
+#[tactic(auto, unfolding(crate::specs::Block::block_equal), using(refusal::proofs::Numbers::positive))]
 pub fn equal(bytes: &[u8]) -> bool
     requires { length bytes.now ≡ 52 }
     ensures { result ≡ block_equal bytes.now }
 {
-    let a = played(bytes);
-    let d = a.dsp;
-    let v = sound(d);
-    (a.refusal == 0) & says(v, bytes)
+    played(bytes).is_ok_and(|d| says(sound(d), bytes))
 }

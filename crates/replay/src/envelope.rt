@@ -34,7 +34,6 @@ fn adsr_of(bytes: &[u8]) -> Adsr
     requires { length bytes.now ≡ 16 }
     ensures { result ≡ adsr_of bytes.now }
 {
-    let phase = phase_of(byte_at(bytes, 8));
     Adsr {
         adsr_mode: byte_at(bytes, 0) == 1,
         gain_param: byte_at(bytes, 1),
@@ -43,7 +42,7 @@ fn adsr_of(bytes: &[u8]) -> Adsr
         sustain_level: byte_at(bytes, 4),
         sustain_rate: byte_at(bytes, 5),
         envelope_level: u16_at(bytes, 6),
-        envelope_phase: phase,
+        envelope_phase: phase_of(byte_at(bytes, 8)),
         tick_counter: u16_at(bytes, 9),
     }
 }
@@ -60,13 +59,13 @@ fn says(e: Adsr, bytes: &[u8]) -> bool
     requires { length bytes.now ≡ 16 }
     ensures { result ≡ envelope_says e bytes.now }
 {
-    let phase = e.envelope_phase;
     (e.envelope_level == u16_at(bytes, 11))
-        & (phase_number(phase) == byte_at(bytes, 13))
+        & (phase_number(e.envelope_phase) == byte_at(bytes, 13))
         & (e.tick_counter == u16_at(bytes, 14))
 }
 
 // A record that is not fit, which the tick refuses, counts as different.
+#[tactic(auto, unfolding(crate::specs::Envelope::envelope_equal), using(refusal::proofs::Numbers::positive))]
 pub fn equal(bytes: &[u8]) -> bool
     requires { length bytes.now ≡ 16 }
     ensures { result ≡ envelope_equal bytes.now }
@@ -74,8 +73,5 @@ pub fn equal(bytes: &[u8]) -> bool
     let mut ram = empty_ram();
     let b = playback(0, 0, 0, 16);
     let a = tick(keyed_on(adsr_of(bytes), b, 0, [0; 4]), &mut ram);
-    let d = a.dsp;
-    let v = sound(d);
-    let e = v.adsr;
-    (a.refusal == 0) & typed(bytes) & says(e, bytes)
+    a.is_ok_and(|d| typed(bytes) & says(sound(d).adsr, bytes))
 }

@@ -1,7 +1,7 @@
 // The leaves that are replayed: how long a record of each is, and whether a record says what the leaf gives.
 ghost use Rattle.std.specs.Prelude.{◌≡◌, ◌≤◌, ◌<◌, length};
 ghost use Rattle.dsp.specs.Noise.{Noise};
-ghost use Rattle.replay.specs.Leaves.{record_size, started, nibble_equal, check_of};
+ghost use Rattle.replay.specs.Leaves.{record_size, started, decoded, nibble_equal, check_of};
 ghost use Rattle.replay.specs.Noise.{Check};
 
 use crate::records::{Carry, Checked, byte_at, i8_at, i16_at, is_i16_at};
@@ -32,26 +32,29 @@ pub fn size(leaf: Leaf) -> usize
 pub fn start() -> Carry
     ensures { ◌≡◌ {A = Noise} (record { lfsr = result.lfsr; counter = result.counter }) started }
 {
-    let d = Dsp::new();
-    Carry {
-        lfsr: d.noise_lfsr,
-        counter: d.noise_tick_counter,
-    }
+    Carry::of(Dsp::new())
 }
 
 // "A direct call uses the low 4 bits of n, 2 of the filter": the records have all 8 bits of both.
-fn nibble(bytes: &[u8]) -> bool
+fn decoded(bytes: &[u8]) -> i16
     requires { length bytes.now ≡ 9 }
-    ensures { result ≡ nibble_equal bytes.now }
+    ensures { result ≡ decoded bytes.now }
 {
-    let sample = dsp::decode_brr_nibble(
+    dsp::decode_brr_nibble(
         i8_at(bytes, 0),
         byte_at(bytes, 1),
         byte_at(bytes, 2),
         i16_at(bytes, 3),
         i16_at(bytes, 5),
-    );
-    is_i16_at(sample, bytes, 7)
+    )
+}
+
+#[tactic(auto, unfolding(crate::specs::Leaves::nibble_equal))]
+fn nibble(bytes: &[u8]) -> bool
+    requires { length bytes.now ≡ 9 }
+    ensures { result ≡ nibble_equal bytes.now }
+{
+    is_i16_at(decoded(bytes), bytes, 7)
 }
 
 pub fn check(leaf: Leaf, bytes: &[u8], carry: Carry) -> Checked

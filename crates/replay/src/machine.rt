@@ -1,10 +1,13 @@
 // The leaves that document 01 makes inner are reached through the public `step`: one tick of a record that is as
 // `new` gives it but for what the leaf is asked about.
 ghost use Rattle.std.specs.Prelude.{◌≡◌};
+ghost use Rattle.dsp.specs.Registers.{Written};
+ghost use Rattle.refusal.specs.Refusal.{told, handed};
 ghost use Rattle.replay.specs.Machine.{zeros, steady, playback, playing, answered, sound_of};
 
 use dsp::{Adsr, Answer, Brr, Dsp, EnvelopePhase, Voice};
 
+#[tactic(auto, unfolding(crate::specs::Machine::zeros))]
 pub fn empty_ram() -> [u8; 65536]
     ensures { result ≡ zeros }
 {
@@ -62,8 +65,9 @@ pub fn keyed_on(adsr: Adsr, brr: Brr, position: u16, history: [i16; 4]) -> Voice
 }
 
 // One tick with this voice 0.
+#[tactic(auto, unfolding(crate::specs::Machine::answered))]
 pub fn tick(v: Voice, ram: &mut [u8]) -> Answer
-    ensures { result ≡ answered v ram.old }
+    ensures { ◌≡◌ {A = Written} (record { refusal = told result; dsp = handed result }) (answered v ram.old) }
 {
     let mut d = Dsp::new();
     d.voices[0] = v;

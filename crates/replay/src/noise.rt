@@ -7,6 +7,7 @@ use crate::records::{Carry, Checked, byte_at, is_i16_at};
 use dsp::Dsp;
 
 // "NON replaces the sample after the voice step": voice 0 shows the noise's sample.
+#[tactic(auto, unfolding(crate::specs::Noise::noise_check, crate::specs::Noise::noisy_answer), using(refusal::proofs::Numbers::positive))]
 pub fn checked(bytes: &[u8], carry: Carry) -> Checked
     requires { length bytes.now ≡ 3 }
     ensures { ◌≡◌ {A = Check} (record { equal = result.equal; carry = record { lfsr = result.carry.lfsr; counter = result.carry.counter } }) (noise_check bytes.now (record { lfsr = carry.lfsr; counter = carry.counter })) }
@@ -17,15 +18,14 @@ pub fn checked(bytes: &[u8], carry: Carry) -> Checked
     d.noise_lfsr = carry.lfsr;
     d.noise_tick_counter = carry.counter;
     let mut ram = empty_ram();
-    let a = d.step(&mut ram);
-    let e = a.dsp;
-    let v = sound(e);
-    let handed = Carry {
-        lfsr: e.noise_lfsr,
-        counter: e.noise_tick_counter,
-    };
-    Checked {
-        equal: (a.refusal == 0) & is_i16_at(v.current_sample, bytes, 1),
-        carry: handed,
+    match d.step(&mut ram) {
+        Ok(e) => Checked {
+            equal: is_i16_at(sound(e).current_sample, bytes, 1),
+            carry: Carry::of(e),
+        },
+        Err(refused) => Checked {
+            equal: false,
+            carry: Carry::of(refused.given),
+        },
     }
 }

@@ -14,11 +14,10 @@ const PARTS_MOST: usize = 1000;
 // What the buffer of a part holds.
 const PART_MOST: usize = 0x10000;
 
-// What replaying a file came to: so many records, all equal; the number, from 1, of the first that differs; or a
-// file that is no whole number of records, has no end or cannot be read.
+// Why the records of a file are not all equal: the number, from 1, of the first that differs; or a file that is no whole
+// number of records, has no end or cannot be read.
 #[derive(Clone, Copy)]
-pub enum Outcome {
-    Equal(u64),
+pub enum Unequal {
     Differs(u64),
     Unread,
 }
@@ -41,9 +40,8 @@ fn front_of(leaf: Leaf, part: &[u8], carry: Carry) -> Front
 {
     let n = size(leaf);
     let count = part.len() / n;
-    let mut equal: usize = 0;
     let mut handed = carry;
-    while equal < count {
+    for equal in 0..count {
         let at = equal * n;
         let c = check(leaf, &part[at..at + n], handed);
         if !c.equal {
@@ -53,10 +51,9 @@ fn front_of(leaf: Leaf, part: &[u8], carry: Carry) -> Front
             };
         }
         handed = c.carry;
-        equal += 1;
     }
     Front {
-        equal,
+        equal: count,
         carry: handed,
     }
 }
@@ -82,31 +79,28 @@ fn read_part<R: Read>(file: &mut R, leaf: Leaf, carry: Carry) -> Part
 // A part that is not full is the last one, unless a read failed, and then the next one does not say "end" either.
 fn ended<R: Read>(file: &mut R) -> bool {
     let mut more = [0u8; 1];
-    let took = fill(file, &mut more);
-    !took.failed && took.size == 0
+    fill(file, &mut more) == Some(0)
 }
 
-pub fn replay<R: Read>(file: &mut R, leaf: Leaf) -> Outcome {
+// So many records, all equal.
+pub fn replay<R: Read>(file: &mut R, leaf: Leaf) -> Result<u64, Unequal> {
     let n = size(leaf);
     let most = part_size(leaf);
     let mut equal: u64 = 0;
     let mut carry = start();
-    let mut parts: usize = 0;
-    while parts < PARTS_MOST {
+    for parts in 0..PARTS_MOST {
         let p = read_part(file, leaf, carry);
-        let f = p.front;
-        equal += f.equal as u64;
-        if f.equal < p.bytes / n {
-            return Outcome::Differs(equal + 1);
+        equal += p.front.equal as u64;
+        if p.front.equal < p.bytes / n {
+            return Err(Unequal::Differs(equal + 1));
         }
         if p.bytes < most {
             if p.bytes % n == 0 && ended(file) {
-                return Outcome::Equal(equal);
+                return Ok(equal);
             }
-            return Outcome::Unread;
+            return Err(Unequal::Unread);
         }
-        carry = f.carry;
-        parts += 1;
+        carry = p.front.carry;
     }
-    Outcome::Unread
+    Err(Unequal::Unread)
 }

@@ -1,5 +1,5 @@
 -- A list put into a slice from its front on, as far as there is room.
-use Rattle.std.proofs.Common.{◌≡◌, ℕ, ◌+◌, ◌<◌, ◌≤◌, List, [], ◌∷◌, ◌++◌, length, take, set, sym, refl, ap, ◌∙◌, subst, append-nil, arith, length-append, take_at, le-leb}
+use Rattle.std.proofs.Common.{◌≡◌, ℕ, ◌+◌, ◌<◌, ◌≤◌, List, [], ◌∷◌, ◌++◌, length, take, set, sym, refl, ap, ◌∙◌, subst, append-nil, arith, length-append, length-take-le, take_at, le-leb}
 use mathlib.Core.Path.{subst⁻¹}
 use lib.Seq.{append_snoc}
 use Rattle.std.specs.Counts.{IsPrefixLen}
@@ -7,7 +7,9 @@ use Rattle.numbers.specs.Bytes.{copied}
 use Rattle.numbers.specs.Unsigned.{least}
 use Rattle.numbers.proofs.Choice.{least_top}
 use Rattle.numbers.proofs.Parts.{Written, unwritten, stored, sized, copied_all, copied_full}
-use Rattle.report.proofs.Takes.{counted}
+
+counted : (n : ℕ) (buf : List ℕ) → n ≤ length buf → IsPrefixLen n buf
+counted n buf h = (h, sym (length-take-le n buf h))
 
 -- `put` of them stand there, and `more` are still to come
 pub record Filling (all old new : List ℕ) (put : ℕ) (more : List ℕ) : Type 0 where

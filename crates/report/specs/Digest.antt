@@ -1,5 +1,6 @@
 -- FNV-1a, 64 bits: a byte is mixed in by an exclusive or, then a product with the prime. Of bytes one after another, and of what a run leaves.
 use Rattle.std.specs.Prelude.{ℕ, ◌*◌, ◌%◌, ◌^◌, Bool, ◌&&◌, List, [], ◌∷◌, bit_xor}
+use Rattle.std.specs.List.{fold}
 use Rattle.numbers.specs.Choice.{◌=?◌}
 use Rattle.dsp.specs.declared.registers.Dsp.{Dsp}
 use Rattle.report.specs.declared.left.Left.{Left}
@@ -7,9 +8,8 @@ use Rattle.report.specs.declared.left.Left.{Left}
 abbrev pub fnv : ℕ → ℕ → ℕ
 fnv sum byte = bit_xor sum byte * 0x100000001B3 % 2 ^ 64
 
-unfoldable pub fnv_all : ℕ → List ℕ → ℕ
-fnv_all sum [] = sum
-fnv_all sum (b ∷ bs) = fnv_all (fnv sum b) bs
+abbrev pub fnv_all : ℕ → List ℕ → ℕ
+fnv_all sum bytes = fold fnv sum bytes
 
 -- the digest of no byte
 abbrev pub empty : ℕ

@@ -1,5 +1,5 @@
 -- Runs that are lent exactly as much as a log needs, what they leave, and the registers that a log reads.
-use Rattle.std.specs.Prelude.{ℕ, ◌*◌, Bool, List, [], ◌∷◌, ◌++◌, length, take, drop, replicate, if◌then◌else◌}
+use Rattle.std.specs.Prelude.{ℕ, ◌*◌, Bool, Option, Some, None, Result, Ok, Err, List, [], ◌∷◌, ◌++◌, length, take, drop, replicate, if◌then◌else◌}
 use Rattle.numbers.specs.Unsigned.{least}
 use Rattle.dsp.specs.PowerOn.{new_dsp}
 use Rattle.dsp.specs.declared.registers.Dsp.{Dsp}
@@ -7,6 +7,8 @@ use Rattle.chip_log.specs.Log.{decode}
 use Rattle.chip_log.specs.Measure.{measure_of}
 use Rattle.chip_log.specs.declared.Record.{Record}
 use Rattle.chip_log.specs.declared.Record.TheVariants.{Write, Ticks, Reading}
+use Rattle.refusal.specs.declared.Refused.{Refused}
+use Rattle.dsp.specs.declared.run.Ran.{Ran}
 use Rattle.dsp.specs.Run.{Outcome, run_of}
 use Rattle.report.specs.Digest.{empty, digest_of, left_by}
 use Rattle.report.specs.declared.left.Left.{Left}
@@ -28,8 +30,15 @@ room_in ticks count pcm sheet readings = room_within (room_for ticks count) (len
 
 -- ---- a run that is lent the first bytes of each slice, as many as its log needs
 
-abbrev pub start_from : Bool → Dsp → Dsp
-start_from ofNew start = if ofNew then new_dsp else start
+-- from the record, or from `new` where none is given
+abbrev pub start_from : Option Dsp → Dsp
+start_from (Some start) = start
+start_from None = new_dsp
+
+-- "A refusal answers .. the record given .. and zeros elsewhere"
+abbrev pub ran_by : Result Ran (Refused Dsp) → Ran
+ran_by (Ok r) = r
+ran_by (Err e) = record { dsp = e.given; ticks = 0; readings = 0 }
 
 -- what stands behind them stays
 abbrev pub with_rest : Room → List ℕ → List ℕ → List ℕ → Outcome → Outcome

@@ -8,14 +8,12 @@ use dsp::{Dsp, Sample};
 
 pub const EMPTY: u64 = 0xCBF29CE484222325;
 
-// Times 2^40 + 0x1B3, modulo 2^64: each part by itself stays below 2^64.
+const PRIME: u64 = 0x100000001B3;
+
 fn times_prime(x: u64) -> u64
     ensures { result ≡ x * 0x100000001B3 % 2 ^ 64 }
 {
-    let shifted = x % 0x1000000 * 0x10000000000;
-    let low = x % 0x100000000 * 0x1B3;
-    let high = x / 0x100000000 * 0x1B3 % 0x100000000 * 0x100000000;
-    std::num::wrapping_add_u64(shifted, std::num::wrapping_add_u64(low, high))
+    x.wrapping_mul(PRIME)
 }
 
 pub fn with_byte(sum: u64, byte: u8) -> u64
@@ -31,6 +29,7 @@ fn with_i16(sum: u64, x: i16) -> u64
 }
 
 // Left, right, 16 bits, low byte first.
+#[tactic(auto, unfolding(dsp::specs::Sheet::pair_bytes))]
 pub fn with_sample(sum: u64, sample: Sample) -> u64
     ensures { result ≡ fnv_all sum (pair_bytes sample.left sample.right) }
 {
@@ -41,10 +40,8 @@ pub fn with_registers(sum: u64, dsp: Dsp) -> u64
     ensures { result ≡ fnv_all sum dsp.registers }
 {
     let mut made = sum;
-    let mut register: u8 = 0;
-    while register < 128 {
+    for register in 0..128 {
         made = with_byte(made, dsp.read_reg(register));
-        register += 1;
     }
     made
 }
@@ -59,11 +56,5 @@ pub fn with_reads(sum: u64, dsp: Dsp) -> u64
 pub fn with_bytes(sum: u64, bytes: &[u8]) -> u64
     ensures { result ≡ fnv_all sum bytes.now }
 {
-    let mut made = sum;
-    let mut i: usize = 0;
-    while i < bytes.len() {
-        made = with_byte(made, bytes[i]);
-        i += 1;
-    }
-    made
+    bytes.iter().fold(sum, |made, byte| with_byte(made, *byte))
 }

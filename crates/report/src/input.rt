@@ -1,5 +1,5 @@
 // What a program reads: bytes of a reader or a file, and RAM from ram.bin.
-ghost use Rattle.std.specs.Prelude.{◌≡◌, ◌≤◌, true, length};
+ghost use Rattle.std.specs.Prelude.{◌≡◌, length};
 ghost use Rattle.std.specs.Counts.{IsPrefixLen};
 ghost use Rattle.report.specs.Input.{Taken};
 
@@ -7,64 +7,26 @@ use std::fs;
 use std::io::{ErrorKind, Read};
 use std::rt::Files;
 
-// So many bytes at the start of a buffer; and whether a read failed, or the input ended too soon.
+// Why RAM was not loaded.
 #[derive(Clone, Copy)]
-pub struct Took {
-    pub failed: bool,
-    pub size: usize,
-}
-
-#[derive(Clone, Copy)]
-pub enum Loaded {
-    Whole,
+pub enum Unloaded {
     OtherLength,
     Unreadable,
 }
 
-pub(crate) fn none() -> Took
-    ensures { (result.failed ≡ true) × (result.size ≡ 0) }
-{
-    Took {
-        failed: true,
-        size: 0,
-    }
-}
-
-// One read; 0 bytes at the input's end.
-fn some<R: Read>(from: &mut R, buf: &mut [u8]) -> Took
-    ensures { result.size ≤ length buf.old }
-{
-    match from.read(buf) {
-        Ok(n) => Took {
-            failed: false,
-            size: n,
-        },
-        Err(_) => none(),
-    }
-}
-
-// Reads until the buffer is full or the input ends.
-pub fn fill<R: Read>(from: &mut R, buf: &mut [u8]) -> Took
+// Reads until the buffer is full or the input ends: so many bytes at the start of the buffer, or none where a read failed.
+pub fn fill<R: Read>(from: &mut R, buf: &mut [u8]) -> Option<usize>
     ensures { Taken result buf.new }
 {
     let mut done: usize = 0;
     while done < buf.len() {
-        let took = some(from, &mut buf[done..]);
-        if took.failed {
-            return none();
+        let n = from.read(&mut buf[done..]).ok()?;
+        if n == 0 {
+            break;
         }
-        if took.size == 0 {
-            return Took {
-                failed: false,
-                size: done,
-            };
-        }
-        done += took.size;
+        done += n;
     }
-    Took {
-        failed: false,
-        size: done,
-    }
+    Some(done)
 }
 
 // The same, but a read that fails ends it too: how many bytes came before.
@@ -73,11 +35,10 @@ pub fn read_full<R: Read>(from: &mut R, buf: &mut [u8]) -> usize
 {
     let mut done: usize = 0;
     while done < buf.len() {
-        let took = some(from, &mut buf[done..]);
-        if took.size == 0 {
-            return done;
+        match from.read(&mut buf[done..]) {
+            Ok(0) | Err(_) => break,
+            Ok(n) => done += n,
         }
-        done += took.size;
     }
     done
 }
@@ -91,46 +52,33 @@ pub fn opened<F: Files>(rt: &F, name: &[u8]) -> Option<F::File> {
 }
 
 // The first bytes of a file, at most as many as the buffer has.
-pub fn file(rt: &impl Files, name: &[u8], buf: &mut [u8]) -> Took
+pub fn file(rt: &impl Files, name: &[u8], buf: &mut [u8]) -> Option<usize>
     ensures { Taken result buf.new }
 {
-    match opened(rt, name) {
-        Some(mut found) => fill(&mut found, buf),
-        None => none(),
-    }
+    fill(&mut opened(rt, name)?, buf)
 }
 
 // A missing ram.bin counts as 0 bytes.
-pub fn load(rt: &impl Files, ram: &mut [u8]) -> Loaded
+pub fn load(rt: &impl Files, ram: &mut [u8]) -> Result<(), Unloaded>
     ensures { length ram.new ≡ length ram.old }
 {
     match fs::open(rt, "ram.bin") {
         Ok(mut found) => image(&mut found, ram),
         Err(e) => {
             if e.kind() == ErrorKind::NotFound {
-                return Loaded::OtherLength;
+                return Err(Unloaded::OtherLength);
             }
-            Loaded::Unreadable
+            Err(Unloaded::Unreadable)
         }
     }
 }
 
 // One byte more is asked for, to see that there is none.
-fn image<R: Read>(from: &mut R, ram: &mut [u8]) -> Loaded {
-    let took = fill(from, ram);
-    if took.failed {
-        return Loaded::Unreadable;
-    }
-    if took.size < ram.len() {
-        return Loaded::OtherLength;
-    }
+fn image<R: Read>(from: &mut R, ram: &mut [u8]) -> Result<(), Unloaded> {
+    let size = fill(from, ram).ok_or(Unloaded::Unreadable)?;
     let mut more = [0u8; 1];
-    let behind = fill(from, &mut more);
-    if behind.failed {
-        return Loaded::Unreadable;
+    if size == ram.len() && fill(from, &mut more).ok_or(Unloaded::Unreadable)? == 0 {
+        return Ok(());
     }
-    if behind.size == 0 {
-        return Loaded::Whole;
-    }
-    Loaded::OtherLength
+    Err(Unloaded::OtherLength)
 }

@@ -5,7 +5,7 @@ ghost use Rattle.report.specs.Digest.{left_by, same_left};
 use crate::digest::{EMPTY, with_bytes, with_reads, with_registers};
 use dsp::Dsp;
 
-#[derive(Clone, Copy)]
+#[derive(Clone, Copy, PartialEq, Eq)]
 pub struct Left {
     pub dsp: u64,
     pub ram: u64,
@@ -29,9 +29,6 @@ impl Left {
     pub fn same(self, other: Left) -> bool
         ensures { result ≡ same_left self other }
     {
-        (self.dsp == other.dsp)
-            & (self.ram == other.ram)
-            & (self.pcm == other.pcm)
-            & (self.readings == other.readings)
+        self == other
     }
 }

@@ -4,6 +4,7 @@ ghost use Rattle.std.specs.Prelude.{◌≡◌, ◌<◌};
 ghost use Rattle.report.specs.Hex.{capital, in_hex};
 
 use dsp::Dsp;
+use refusal::Refusal;
 
 pub fn say(out: &impl Print, words: &[u8]) -> bool {
     out.write_all(words).is_ok()
@@ -29,6 +30,7 @@ fn digit(n: u8) -> u8
     if n < 10 { b'0' + n } else { b'A' - 10 + n }
 }
 
+#[tactic(auto, unfolding(crate::specs::Hex::in_hex))]
 pub fn hex_of(value: u8) -> [u8; 2]
     ensures { result ≡ in_hex 2 value }
 {
@@ -56,28 +58,25 @@ pub fn end(out: &impl Print, ticks: u64, readings: u64) -> bool {
     say(out, b"END ") && number(out, ticks) && numbered(out, b" ", readings)
 }
 
-pub fn refused(out: &impl Print, refusal: u8) -> bool {
-    numbered(out, b"REFUSED ", refusal as u64)
+pub fn refused(out: &impl Print, refusal: Refusal) -> bool {
+    numbered(out, b"REFUSED ", u64::from(refusal.number()))
 }
 
 pub fn registers(out: &impl Print, dsp: Dsp) -> bool {
     let mut went = say(out, b"REG");
-    let mut register: u8 = 0;
-    while register < 128 {
+    for register in 0..128 {
         went = byte(out, dsp.read_reg(register)) & went;
-        register += 1;
     }
     say(out, b"\n") & went
 }
 
+#[tactic(auto, unfolding(crate::specs::Hex::in_hex), using(crate::proofs::Digits::digit_before))]
 pub fn digits_of(sum: u64) -> [u8; 16]
     ensures { result ≡ in_hex 16 sum }
 {
     let mut text = [0u8; 16];
     let mut rest = sum;
-    let mut i: usize = 16;
-    while i > 0 {
-        i -= 1;
+    for i in (0..16).rev() {
         text[i] = digit((rest % 16) as u8);
         rest /= 16;
     }

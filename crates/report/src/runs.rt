@@ -3,15 +3,18 @@ ghost use Rattle.std.specs.Prelude.{◌≡◌, ◌<◌, ◌≤◌, length};
 ghost use Rattle.std.specs.Counts.{IsPrefixLen};
 ghost use Rattle.numbers.specs.Bytes.{copied};
 ghost use Rattle.numbers.specs.Unsigned.{least as least_of};
-ghost use Rattle.dsp.specs.Run.{Outcome, run_of};
+ghost use Rattle.refusal.specs.Refusal.{told as told_by};
+ghost use Rattle.chip_log.specs.Measure.{measure_of};
+ghost use Rattle.dsp.specs.Run.{outcome, run_of};
 ghost use Rattle.report.specs.Digest.{digest_of, left_by};
-ghost use Rattle.report.specs.Runs.{room_for, room_within, start_from, run_cut, left_of, Through, through, whole_of, registers_in};
+ghost use Rattle.report.specs.Runs.{room_for, room_within, start_from, ran_by, run_cut, left_of, Through, through, whole_of, registers_in};
 
 use crate::digest::{EMPTY, with_bytes};
 use crate::left::Left;
 use crate::lines;
-use chip_log::{Next, Record, measure, read};
+use chip_log::{Record, measure, read};
 use dsp::Dsp;
+use refusal::Refused;
 use sitting::{Ran, run, run_new};
 
 // How many bytes of each slice are lent.
@@ -37,7 +40,7 @@ pub fn room_for(ticks: u32, readings: u32) -> Room
 pub fn least(a: usize, b: usize) -> usize
     ensures { (result ≡ least_of a b) × (result ≤ a) × (result ≤ b) }
 {
-    if a <= b { a } else { b }
+    a.min(b)
 }
 
 // So many bytes of a buffer, but no more than it has.
@@ -53,39 +56,62 @@ impl Room {
         ensures { (result ≡ room_within self pcm sheet readings) × (result.pcm ≤ pcm) × (result.sheet ≤ sheet) × (result.readings ≤ readings) }
     {
         Room {
-            pcm: least(self.pcm, pcm),
-            sheet: least(self.sheet, sheet),
-            readings: least(self.readings, readings),
+            pcm: self.pcm.min(pcm),
+            sheet: self.sheet.min(sheet),
+            readings: self.readings.min(readings),
         }
     }
 }
 
-// What a run left, and its refusal or 0.
+// The answer of a run, and what it left.
 #[derive(Clone, Copy)]
 pub struct Whole {
-    pub refusal: u8,
-    pub dsp: Dsp,
+    pub answer: Result<Ran, Refused<Dsp>>,
     pub left: Left,
 }
 
-// From `new` by `run_new`, or from a record by `run`; told or not. Room for any log: 32,000 ticks with 4 bytes of PCM and 36 of
+// "A refusal answers .. the record given .. and zeros elsewhere".
+pub fn ran(answer: Result<Ran, Refused<Dsp>>) -> Ran
+    ensures { result ≡ ran_by answer }
+{
+    match answer {
+        Ok(r) => r,
+        Err(e) => Ran {
+            dsp: e.given,
+            ticks: 0,
+            readings: 0,
+        },
+    }
+}
+
+// What a log needs; where it is refused, nothing.
+pub fn room_of(log: &[u8]) -> Room
+    ensures room { result ≡ room_for (measure_of log.now).ticks (measure_of log.now).readings }
+    ensures few { (result.pcm < 0x10000000000) × (result.sheet < 0x10000000000) × (result.readings < 0x10000000000) }
+{
+    match measure(log) {
+        Ok(m) => room_for(m.ticks, m.readings),
+        Err(_) => room_for(0, 0),
+    }
+}
+
+// From a record or from `new`, as `run_on`; told or not. Room for any log: 32,000 ticks with 4 bytes of PCM and 36 of
 // sheet each, 20,000 readings with 3 bytes of the log each.
+#[tactic(auto, unfolding(crate::specs::Runs::whole_of))]
 pub fn run_whole(
     out: &impl Print,
-    of_new: bool,
     told: bool,
-    start: Dsp,
+    start: Option<Dsp>,
     log: &[u8],
     ram: &mut [u8],
 ) -> Whole
-    ensures { ◌≡◌ {A = Through} (record { refusal = result.refusal; dsp = result.dsp; left = result.left; ram = ram.new }) (whole_of told (start_from of_new start) ram.old log.now) }
+    ensures { ◌≡◌ {A = Through} (record { refusal = told_by result.answer; dsp = (ran_by result.answer).dsp; left = result.left; ram = ram.new }) (whole_of told (start_from start) ram.old log.now) }
 {
     let mut pcm = [0; 128000];
     let mut sheet = [0; 1152000];
     let mut readings = [0; 20000];
-    run_in(
+    run_told(
         out,
-        of_new,
         told,
         start,
         log,
@@ -97,67 +123,41 @@ pub fn run_whole(
 }
 
 // Behind a reference an array's length is its type's, and no check has to count a million bytes.
-fn run_in(
+fn run_told(
     out: &impl Print,
-    of_new: bool,
     told: bool,
-    start: Dsp,
+    start: Option<Dsp>,
     log: &[u8],
     ram: &mut [u8],
     pcm: &mut [u8; 128000],
     sheet: &mut [u8; 1152000],
     readings: &mut [u8; 20000],
 ) -> Whole
-    ensures { ◌≡◌ {A = Through} (record { refusal = result.refusal; dsp = result.dsp; left = result.left; ram = ram.new }) (through told (run_cut (start_from of_new start) ram.old log.now pcm.old sheet.old readings.old)) }
+    ensures { ◌≡◌ {A = Through} (record { refusal = told_by result.answer; dsp = (ran_by result.answer).dsp; left = result.left; ram = ram.new }) (through told (run_cut (start_from start) ram.old log.now pcm.old sheet.old readings.old)) }
 {
-    run_told(out, of_new, told, start, log, ram, pcm, sheet, readings)
-}
-
-fn run_told(
-    out: &impl Print,
-    of_new: bool,
-    told: bool,
-    start: Dsp,
-    log: &[u8],
-    ram: &mut [u8],
-    pcm: &mut [u8],
-    sheet: &mut [u8],
-    readings: &mut [u8],
-) -> Whole
-    ensures { ◌≡◌ {A = Through} (record { refusal = result.refusal; dsp = result.dsp; left = result.left; ram = ram.new }) (through told (run_cut (start_from of_new start) ram.old log.now pcm.old sheet.old readings.old)) }
-{
-    let r = run_cut(of_new, start, ram, log, pcm, sheet, readings);
-    let d = r.dsp;
-    if told {
-        return Whole {
-            refusal: r.refusal,
-            dsp: d,
-            left: tell(out, r, log, ram, pcm, sheet, readings),
-        };
-    }
-    Whole {
-        refusal: r.refusal,
-        dsp: d,
-        left: Left::by(d, ram, EMPTY, EMPTY),
-    }
+    let answer = run_cut(start, ram, log, pcm, sheet, readings);
+    let left = if told {
+        tell(out, answer, log, ram, pcm, sheet, readings)
+    } else {
+        Left::by(ran(answer).dsp, ram, EMPTY, EMPTY)
+    };
+    Whole { answer, left }
 }
 
 // Lends what the log needs; were there less, the run would refuse by 10.
+#[tactic(auto, unfolding(crate::specs::Runs::run_cut))]
 pub fn run_cut(
-    of_new: bool,
-    start: Dsp,
+    start: Option<Dsp>,
     ram: &mut [u8],
     log: &[u8],
     pcm: &mut [u8],
     sheet: &mut [u8],
     readings: &mut [u8],
-) -> Ran
-    ensures { ◌≡◌ {A = Outcome} (record { refusal = result.refusal; dsp = result.dsp; ticks = result.ticks; count = result.readings; ram = ram.new; pcm = pcm.new; sheet = sheet.new; readings = readings.new }) (run_cut (start_from of_new start) ram.old log.now pcm.old sheet.old readings.old) }
+) -> Result<Ran, Refused<Dsp>>
+    ensures { outcome result ram.new pcm.new sheet.new readings.new ≡ run_cut (start_from start) ram.old log.now pcm.old sheet.old readings.old }
 {
-    let m = measure(log);
-    let n = room_for(m.ticks, m.readings).within(pcm.len(), sheet.len(), readings.len());
+    let n = room_of(log).within(pcm.len(), sheet.len(), readings.len());
     run_on(
-        of_new,
         start,
         ram,
         log,
@@ -167,40 +167,41 @@ pub fn run_cut(
     )
 }
 
-// By `run_new`, or from the record by `run`.
+// From the record by `run`, or from `new` by `run_new` where none is given.
 pub fn run_on(
-    of_new: bool,
-    start: Dsp,
+    start: Option<Dsp>,
     ram: &mut [u8],
     log: &[u8],
     pcm: &mut [u8],
     sheet: &mut [u8],
     readings: &mut [u8],
-) -> Ran
-    ensures { ◌≡◌ {A = Outcome} (record { refusal = result.refusal; dsp = result.dsp; ticks = result.ticks; count = result.readings; ram = ram.new; pcm = pcm.new; sheet = sheet.new; readings = readings.new }) (run_of (start_from of_new start) ram.old log.now pcm.old sheet.old readings.old) }
+) -> Result<Ran, Refused<Dsp>>
+    ensures { outcome result ram.new pcm.new sheet.new readings.new ≡ run_of (start_from start) ram.old log.now pcm.old sheet.old readings.old }
 {
-    if of_new {
-        return run_new(ram, log, pcm, sheet, readings);
+    match start {
+        Some(record) => run(record, ram, log, pcm, sheet, readings),
+        None => run_new(ram, log, pcm, sheet, readings),
     }
-    run(start, ram, log, pcm, sheet, readings)
 }
 
 // Of what was lent, what a run with such an answer was lent and has filled.
+#[tactic(auto, unfolding(crate::specs::Runs::left_of))]
 pub fn tell(
     out: &impl Print,
-    r: Ran,
+    answer: Result<Ran, Refused<Dsp>>,
     log: &[u8],
     ram: &[u8],
     pcm: &[u8],
     sheet: &[u8],
     readings: &[u8],
 ) -> Left
-    ensures { result ≡ left_of r.dsp r.ticks r.readings ram.now pcm.now sheet.now readings.now }
+    ensures { result ≡ left_of (ran_by answer).dsp (ran_by answer).ticks (ran_by answer).readings ram.now pcm.now sheet.now readings.now }
 {
+    let r = ran(answer);
     let n = room_for(r.ticks, r.readings).within(pcm.len(), sheet.len(), readings.len());
     tell_cut(
         out,
-        r,
+        answer,
         log,
         ram,
         &pcm[..n.pcm],
@@ -211,32 +212,32 @@ pub fn tell(
 
 fn tell_cut(
     out: &impl Print,
-    r: Ran,
+    answer: Result<Ran, Refused<Dsp>>,
     log: &[u8],
     ram: &[u8],
     pcm: &[u8],
     sheet: &[u8],
     readings: &[u8],
 ) -> Left
-    ensures { result ≡ left_by r.dsp ram.now (digest_of pcm.now) (digest_of readings.now) }
+    ensures { result ≡ left_by (ran_by answer).dsp ram.now (digest_of pcm.now) (digest_of readings.now) }
 {
-    let d = r.dsp;
-    let left = Left::by(d, ram, with_bytes(EMPTY, pcm), with_bytes(EMPTY, readings));
-    tell_lines(out, r, log, left, sheet, readings);
+    let samples = with_bytes(EMPTY, pcm);
+    let left = Left::by(ran(answer).dsp, ram, samples, with_bytes(EMPTY, readings));
+    match answer {
+        Ok(r) => tell_lines(out, r, log, left, sheet, readings),
+        Err(e) => {
+            lines::refused(out, e.refusal);
+        }
+    }
     left
 }
 
 fn tell_lines(out: &impl Print, r: Ran, log: &[u8], left: Left, sheet: &[u8], readings: &[u8]) {
-    if r.refusal != 0 {
-        lines::refused(out, r.refusal);
-        return;
-    }
-    let d = r.dsp;
     let mut registers = [0u8; 20000];
     let n = registers_read(log, &mut registers);
     tell_readings(out, &registers[..n], readings);
     lines::end(out, r.ticks as u64, r.readings as u64);
-    lines::registers(out, d);
+    lines::registers(out, r.dsp);
     lines::digest(out, b"RAM ", left.ram);
     lines::digest(out, b"PCM ", left.pcm);
     lines::digest(out, b"SHEET ", with_bytes(EMPTY, sheet));
@@ -250,7 +251,7 @@ pub fn registers_read(log: &[u8], to: &mut [u8]) -> usize
     let mut put: usize = 0;
     let mut at: usize = 0;
     while put < to.len() {
-        let Next::On { found, at: behind } = read(log, at) else {
+        let Ok(Some((found, behind))) = read(log, at) else {
             return put;
         };
         if let Record::Reading { register } = found {
@@ -263,10 +264,7 @@ pub fn registers_read(log: &[u8], to: &mut [u8]) -> usize
 }
 
 fn tell_readings(out: &impl Print, registers: &[u8], readings: &[u8]) {
-    let n = least(registers.len(), readings.len());
-    let mut i: usize = 0;
-    while i < n {
-        lines::reading(out, i as u64 + 1, registers[i], readings[i]);
-        i += 1;
+    for (i, (register, value)) in registers.iter().zip(readings).enumerate() {
+        lines::reading(out, i as u64 + 1, *register, *value);
     }
 }

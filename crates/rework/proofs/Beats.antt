@@ -14,8 +14,8 @@ use Rattle.dsp.proofs.Tests.{lt, ◌and◌}
 use Rattle.chip_log.specs.Log.{read_at, Moves, Decoded, before, decode_from, decode}
 use Rattle.chip_log.specs.declared.Record.{Record}
 use Rattle.chip_log.specs.declared.Record.TheVariants.{Write, Ticks, Reading}
-use Rattle.chip_log.specs.declared.Next.{Next}
-use Rattle.chip_log.specs.declared.Next.TheVariants.{On, Off}
+use Rattle.chip_log.specs.Log.{Next}
+use Rattle.chip_log.specs.Log.{On, Off}
 use Rattle.chip_log.proofs.Places.{moves, ByteValue, byte_value}
 use Rattle.rework.specs.Alike.{named, stays, without}
 use Rattle.rework.specs.Members.{Fields, modes_after, quiet, joined_by, joined_over, members}

@@ -21,8 +21,8 @@ use Rattle.dsp.specs.declared.tick.Work.{Work}
 use Rattle.dsp.proofs.Fits.{fit_facts, facts_fit, new-fit, fit-kept-write, no_voice-fit}
 use Rattle.chip_log.specs.Log.{read_at, Moves, decode}
 use Rattle.chip_log.specs.declared.Record.TheVariants.{Write, Ticks, Reading}
-use Rattle.chip_log.specs.declared.Next.{Next}
-use Rattle.chip_log.specs.declared.Next.TheVariants.{On, Off}
+use Rattle.chip_log.specs.Log.{Next}
+use Rattle.chip_log.specs.Log.{On, Off}
 use Rattle.chip_log.proofs.Places.{moves, ByteValue, byte_value}
 use Rattle.dsp.specs.Run.{run_with, run_of}
 use Rattle.sitting.specs.Parts.{Told, Parted, stop_at, record_at, next_at, ticks_now, sounding, log_refusal, part_of}
@@ -30,7 +30,7 @@ use Rattle.numbers.specs.Listed.{listed}
 use Rattle.rework.specs.Rework.{picked, end_parts, set_of, only, Left, refusal_of, rework_of, rework_new_of}
 use Rattle.rework.specs.Demands.{IsRecord, Bytes}
 use Rattle.rework.specs.KeptFit.{IsFit, EveryCallKeepsFit}
-use Rattle.rework.proofs.Listed.{length-listed, get_or-listed}
+use Rattle.dsp.proofs.Apart.{listed-count, listed_at}
 use Rattle.rework.proofs.Tape.{beats}
 use Rattle.rework.proofs.Taped.{taped}
 use Rattle.rework.proofs.Beats.{small_beats}
@@ -78,8 +78,8 @@ unfolding picked
 picked_keeps P x a new old z j p q =
     let f : ℕ → _ = (λ i. if bit a i then get_or new i x else get_or old i x) in
     elim (dec_lt j 8) [
-      | yes l ↦ rw (get_or-listed f 8 j x l) (chosen P (bit a j) p q)
-      | no l ↦ rw (get_or-eq_default (listed f 8) x {n = j} (omega (arith, length-listed f 8))) z
+      | yes l ↦ rw (listed_at f x 8 j l) (chosen P (bit a j) p q)
+      | no l ↦ rw (get_or-eq_default (listed f 8) x {n = j} (omega (arith, listed-count f 8))) z
     ]
 
 end-fit : (a : ℕ) (new old : Dsp) → IsFit new → IsFit old → IsFit (together (end_parts a (apart new) (apart old)))

@@ -13,9 +13,9 @@ use Rattle.chip_log.specs.Log.{byte_in, write_record, ticks_record, reading_reco
 use Rattle.chip_log.specs.Measure.{ticks_in, readings_in, unmeasured, total, total_of, measure_of}
 use Rattle.chip_log.specs.declared.Record.{Record}
 use Rattle.chip_log.specs.declared.Record.TheVariants.{Write, Ticks, Reading}
-use Rattle.chip_log.specs.declared.Next.{Next}
-use Rattle.chip_log.specs.declared.Next.TheVariants.{On, Off}
-use Rattle.chip_log.specs.declared.Measured.{Measured}
+use Rattle.chip_log.specs.Log.{Next}
+use Rattle.chip_log.specs.Log.{On, Off}
+use Rattle.chip_log.specs.Measure.{Measured}
 use Rattle.rework.specs.Refusals.{◌when◌, first_of, is_too_long, RW, TK, QA, ND, size_of, mark_at, count_at, fault_by, ticks_by, fault_from, fault_of}
 
 -- ---- the first that applies

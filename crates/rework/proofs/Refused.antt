@@ -17,9 +17,9 @@ use Rattle.chip_log.specs.Log.{read_at, decode}
 use Rattle.chip_log.specs.Measure.{ticks_in, readings_in, unmeasured, total, measure_of}
 use Rattle.chip_log.specs.declared.Record.{Record}
 use Rattle.chip_log.specs.declared.Record.TheVariants.{Write, Ticks, Reading}
-use Rattle.chip_log.specs.declared.Next.{Next}
-use Rattle.chip_log.specs.declared.Next.TheVariants.{On, Off}
-use Rattle.chip_log.specs.declared.Measured.{Measured}
+use Rattle.chip_log.specs.Log.{Next}
+use Rattle.chip_log.specs.Log.{On, Off}
+use Rattle.chip_log.specs.Measure.{Measured}
 use Rattle.dsp.specs.Run.{unrun, run_measured, run_with}
 use Rattle.sitting.specs.Parts.{Told, Parted, untold, unparted, stop_at, record_at, next_at, ticks_now, sounding, log_refusal, part_of}
 use Rattle.rework.specs.Refusals.{◌when◌, first_of, ram_is_not_whole, is_unfit, is_too_long, fault_of}

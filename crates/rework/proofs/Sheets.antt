@@ -17,7 +17,7 @@ use Rattle.dsp.specs.declared.tick.Work.{Work}
 use Rattle.dsp.proofs.Batches.{lane_part}
 use Rattle.chip_log.specs.Log.{decode}
 use Rattle.chip_log.specs.Measure.{ticks_in, readings_in, total, measure_of}
-use Rattle.chip_log.specs.declared.Measured.{Measured}
+use Rattle.chip_log.specs.Measure.{Measured}
 use Rattle.chip_log.specs.declared.Record.{Record}
 use Rattle.chip_log.specs.declared.Record.TheVariants.{Write, Ticks, Reading}
 use Rattle.chip_log.proofs.Turn.{good, taken}

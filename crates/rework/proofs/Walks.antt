@@ -7,8 +7,8 @@ use Prim.Native.Nat.{ℕ, zero, suc, ◌<◌}
 use native.Mathlib.Omega.{arith}
 use Rattle.chip_log.specs.Log.{read_at, records_from}
 use Rattle.chip_log.specs.declared.Record.{Record}
-use Rattle.chip_log.specs.declared.Next.{Next}
-use Rattle.chip_log.specs.declared.Next.TheVariants.{On, Off}
+use Rattle.chip_log.specs.Log.{Next}
+use Rattle.chip_log.specs.Log.{On, Off}
 use Rattle.chip_log.proofs.Places.{opened_at, closed_at}
 use Rattle.rework.specs.Members.{Fields, modes_by, quiet_in, quiet, joined_by, joined_over, joined_in, members}
 use Rattle.rework.proofs.Bits.{joined_twice}
@@ -25,14 +25,14 @@ module _ (log : List ℕ) (at : ℕ) {n : Next} (is : n ≡ read_at log at) (m :
   unfolding quiet
   quiet_on {r} {behind} q e = rw (opened_at log at behind r (sym is ∙ e)) (sym (and_assoc q (quiet_in r m) (quiet (records_from log behind) (modes_by r m))))
 
-  pub quiet-end : {k : ℕ} (q : Bool) → n ≡ Off k → (q && quiet (records_from log at) m) ≡ q
+  pub quiet_end : {k : ℕ} (q : Bool) → n ≡ Off k → (q && quiet (records_from log at) m) ≡ q
   unfolding quiet
-  quiet-end {k} q e = rw (closed_at log at k (sym is ∙ e)) (and-true q)
+  quiet_end {k} q e = rw (closed_at log at k (sym is ∙ e)) (and-true q)
 
   pub members_on : {r : Record} {behind : ℕ} (a : ℕ) → n ≡ On r behind → members (records_from log at) m a ≡ members (records_from log behind) (modes_by r m) (joined_in r m a)
   unfolding members
   members_on {r} {behind} a e = rw (opened_at log at behind r (sym is ∙ e))
 
-  pub members-end : {k : ℕ} (a : ℕ) → n ≡ Off k → members (records_from log at) m a ≡ a
+  pub members_end : {k : ℕ} (a : ℕ) → n ≡ Off k → members (records_from log at) m a ≡ a
   unfolding members
-  members-end {k} a e = rw (closed_at log at k (sym is ∙ e))
+  members_end {k} a e = rw (closed_at log at k (sym is ∙ e))

@@ -5,8 +5,8 @@ use Rattle.numbers.specs.Bits.{bit}
 use Rattle.chip_log.specs.Log.{records_from}
 use Rattle.chip_log.specs.declared.Record.{Record}
 use Rattle.chip_log.specs.declared.Record.TheVariants.{Write, Ticks, Reading}
-use Rattle.chip_log.specs.declared.Next.{Next}
-use Rattle.chip_log.specs.declared.Next.TheVariants.{On, Off}
+use Rattle.chip_log.specs.Log.{Next}
+use Rattle.chip_log.specs.Log.{On, Off}
 
 -- one of $j0 .. $j7 of a named voice j
 abbrev pub named : ℕ → ℕ → Bool

@@ -15,9 +15,9 @@ use Rattle.chip_log.specs.Log.{read_at, decode}
 use Rattle.chip_log.specs.Measure.{measure_of, unmeasured}
 use Rattle.chip_log.specs.declared.Record.{Record}
 use Rattle.chip_log.specs.declared.Record.TheVariants.{Write, Ticks, Reading}
-use Rattle.chip_log.specs.declared.Measured.{Measured}
-use Rattle.chip_log.specs.declared.Next.{Next}
-use Rattle.chip_log.specs.declared.Next.TheVariants.{On, Off}
+use Rattle.chip_log.specs.Measure.{Measured}
+use Rattle.chip_log.specs.Log.{Next}
+use Rattle.chip_log.specs.Log.{On, Off}
 use Rattle.dsp.specs.Run.{Outcome, unrun, run_with, run_of}
 use Rattle.sitting.specs.Parts.{Parted, unparted, part_of}
 use Rattle.rework.specs.Refusals.{◌when◌, first_of, ram_is_not_whole, is_unfit, is_too_long, is_not_as_long, fault_of}

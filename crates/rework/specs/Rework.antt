@@ -1,5 +1,5 @@
 -- A rework: its refusals in their order, and what it leaves, for any old sheet (document 01, "Rework").
-use Rattle.std.specs.Prelude.{Bool, false, not, ◌&&◌, List, ℕ, ◌/◌, ◌%◌, get_or, length, if◌then◌else◌}
+use Rattle.std.specs.Prelude.{Bool, false, not, ◌&&◌, List, ℕ, ◌/◌, ◌%◌, get_or, length, Result, Ok, Err, if◌then◌else◌}
 use Rattle.numbers.specs.Choice.{◌<?◌, ◌=?◌}
 use Rattle.numbers.specs.Bits.{bit, with_bit}
 use Rattle.numbers.specs.Listed.{listed, turns}
@@ -12,6 +12,9 @@ use Rattle.chip_log.specs.Log.{decode}
 use Rattle.chip_log.specs.Measure.{measure_of}
 use Rattle.dsp.specs.Run.{Outcome, run_with, run_of}
 use Rattle.rework.specs.Alike.{alike}
+use Rattle.rework.specs.declared.reworking.Reworked.{Reworked}
+use Rattle.refusal.specs.Refusal.{number}
+use Rattle.refusal.specs.declared.Refused.{Refused}
 use Rattle.rework.specs.Members.{modes_of, quiet, members, voices_in}
 
 -- ---- the end record: the old one, with the set's own parts of the new
@@ -80,6 +83,11 @@ pub record Left : Type 0 where
 
 abbrev pub unreworked : ℕ → Dsp → List ℕ → List ℕ → List ℕ → Left
 unreworked k start pcm sheet readings = record { refusal = k; dsp = start; members = 0; count = 0; pcm = pcm; sheet = sheet; readings = readings }
+
+-- an answer of a rework, with what it leaves in the lent slices, in these words
+abbrev pub left : Result Reworked (Refused Dsp) → List ℕ → List ℕ → List ℕ → Left
+left (Ok w) pcm sheet readings = record { refusal = 0; dsp = w.dsp; members = w.members; count = w.count; pcm = pcm; sheet = sheet; readings = readings }
+left (Err e) pcm sheet readings = unreworked (number e.refusal) e.given pcm sheet readings
 
 -- the set A, over the new log
 abbrev pub set_of : ℕ → Dsp → List ℕ → ℕ

@@ -7,43 +7,17 @@ ghost use Rattle.rework.specs.Rework.{picked, end_bit, end_byte, picked_bytes, e
 use dsp::{Dsp, Voice};
 use numbers::{bit, with_bit};
 
-fn voice_of(on: bool, new: Voice, old: Voice) -> Voice
-    ensures { result ≡ (if on then new else old) }
+// Of two arrays of eight, the elements of the set from the new.
+fn picked<T: Copy>(set: u8, new: [T; 8], old: [T; 8]) -> [T; 8]
+    ensures { (d : T) → result ≡ picked d set new old }
 {
-    if on { new } else { old }
-}
-
-fn delay_of(on: bool, new: u8, old: u8) -> u8
-    ensures { result ≡ (if on then new else old) }
-{
-    if on { new } else { old }
-}
-
-fn pick_voices(set: u8, new: [Voice; 8], old: [Voice; 8]) -> [Voice; 8]
-    ensures { result ≡ picked no_voice set new old }
-{
-    let mut voices = old;
-    let mut j: usize = 0;
-    while j < 8 {
-        let v = new[j];
-        let w = voices[j];
-        let x = voice_of(bit(set, j), v, w);
-        voices[j] = x;
-        j += 1;
+    let mut all = old;
+    for j in 0..8 {
+        if bit(set, j) {
+            all[j] = new[j];
+        }
     }
-    voices
-}
-
-fn pick_delays(set: u8, new: [u8; 8], old: [u8; 8]) -> [u8; 8]
-    ensures { result ≡ picked 0 set new old }
-{
-    let mut delays = old;
-    let mut j: usize = 0;
-    while j < 8 {
-        delays[j] = delay_of(bit(set, j), new[j], delays[j]);
-        j += 1;
-    }
-    delays
+    all
 }
 
 // The ENDX bit of voice j is the new record's where the set has the voice.
@@ -58,14 +32,13 @@ fn end_bit(set: u8, new: u8, j: usize, endx: u8) -> u8
     }
 }
 
+#[tactic(auto, unfolding(numbers::specs::Listed::turns))]
 fn pick_endx(set: u8, new: u8, old: u8) -> u8
     ensures { result ≡ turns (end_bit set new) 8 old }
 {
     let mut endx = old;
-    let mut j: usize = 0;
-    while j < 8 {
+    for j in 0..8 {
         endx = end_bit(set, new, j, endx);
-        j += 1;
     }
     endx
 }
@@ -84,14 +57,11 @@ fn byte_of(set: u8, i: usize, new: u8, old: u8) -> u8
     }
 }
 
-fn pick_bytes(set: u8, new: &[u8], bytes: &mut [u8])
-    requires { (length new.now ≡ 128) × (length bytes.old ≡ 128) }
+fn pick_bytes(set: u8, new: &[u8; 128], bytes: &mut [u8; 128])
     ensures { bytes.new ≡ picked_bytes set new.now bytes.old }
 {
-    let mut i: usize = 0;
-    while i < 128 {
+    for i in 0..128 {
         bytes[i] = byte_of(set, i, new[i], bytes[i]);
-        i += 1;
     }
 }
 
@@ -99,17 +69,8 @@ pub(crate) fn end_of(set: u8, new: Dsp, old: Dsp) -> Dsp
     ensures { result ≡ together (end_parts set (apart new) (apart old)) }
 {
     let mut d = old;
-    let from = new.registers;
-    let mut bytes = old.registers;
-    pick_bytes(set, &from, &mut bytes);
-    d.registers = bytes;
-    let vs = new.voices;
-    let ws = old.voices;
-    let voices = pick_voices(set, vs, ws);
-    d.voices = voices;
-    let ds = new.kon_delay;
-    let es = old.kon_delay;
-    let delays = pick_delays(set, ds, es);
-    d.kon_delay = delays;
+    pick_bytes(set, &new.registers, &mut d.registers);
+    d.voices = picked(set, new.voices, old.voices);
+    d.kon_delay = picked(set, new.kon_delay, old.kon_delay);
     d
 }

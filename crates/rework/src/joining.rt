@@ -1,10 +1,10 @@
 // The set A over a log, and whether echo writing is off at every tick of it.
 ghost use Rattle.std.specs.Prelude.{◌≡◌, ◌&&◌, ◌<◌};
 ghost use Rattle.chip_log.specs.Log.{decode};
-ghost use Rattle.rework.specs.Members.{Fields, modes_by, quiet_in, quiet, join_after, joined_by, joined_over, joined_in, members};
+ghost use Rattle.rework.specs.Members.{modes_by, quiet_in, quiet, join_after, joined_by, joined_over, joined_in, members};
 
 use crate::modes::Modes;
-use chip_log::{Next, Record, read};
+use chip_log::{Record, read};
 use numbers::{bit, with_bit};
 
 // How far a walk over the log has come: the fields, whether every tick so far was quiet, and the set so far.
@@ -28,19 +28,19 @@ fn join_after(pmon: u8, j: usize, set: u8) -> u8
 }
 
 // A tick, from voice 1 up.
+#[tactic(auto, unfolding(numbers::specs::Listed::turns, crate::specs::Members::joined_by))]
 fn joined_by(pmon: u8, set: u8) -> u8
     ensures { result ≡ joined_by pmon set }
 {
     let mut a = set;
-    let mut j: usize = 0;
-    while j < 7 {
+    for j in 0..7 {
         a = join_after(pmon, j, a);
-        j += 1;
     }
     a
 }
 
 // No tick changes PMON, so that the ticks of one record join what its first does.
+#[tactic(auto, unfolding(crate::specs::Members::joined_over), using(crate::proofs::Walks::over_some))]
 fn joined_over(count: u16, pmon: u8, set: u8) -> u8
     ensures { result ≡ joined_over count pmon set }
 {
@@ -52,27 +52,26 @@ fn joined_over(count: u16, pmon: u8, set: u8) -> u8
 
 impl Walked {
     fn past(self, found: Record) -> Self
-        ensures { (◌≡◌ {A = Fields} (record { flg = result.modes.flg; pmon = result.modes.pmon }) (modes_by found (record { flg = self.modes.flg; pmon = self.modes.pmon }))) × (result.quiet ≡ (self.quiet && quiet_in found (record { flg = self.modes.flg; pmon = self.modes.pmon }))) × (result.set ≡ joined_in found (record { flg = self.modes.flg; pmon = self.modes.pmon }) self.set) }
+        ensures { (result.modes ≡ modes_by found self.modes) × (result.quiet ≡ (self.quiet && quiet_in found self.modes)) × (result.set ≡ joined_in found self.modes self.set) }
     {
-        let m = self.modes;
         match found {
             Record::Write { register, value } => Self {
-                modes: m.after(register, value),
-                quiet: self.quiet,
-                set: self.set,
+                modes: self.modes.after(register, value),
+                ..self
             },
             Record::Ticks { count } => Self {
-                modes: m,
-                quiet: self.quiet & ((count == 0) | bit(m.flg, 5)),
-                set: joined_over(count, m.pmon, self.set),
+                quiet: self.quiet & ((count == 0) | bit(self.modes.flg, 5)),
+                set: joined_over(count, self.modes.pmon, self.set),
+                ..self
             },
-            Record::Reading { register: _ } => self,
+            Record::Reading { .. } => self,
         }
     }
 }
 
+#[tactic(auto, unfolding(chip_log::specs::Log::decode), using(crate::proofs::Walks::quiet_on, crate::proofs::Walks::quiet_end, crate::proofs::Walks::members_on, crate::proofs::Walks::members_end))]
 pub(crate) fn walk(named: u8, start: Modes, log: &[u8]) -> Walked
-    ensures { (result.quiet ≡ quiet (decode log.now).records (record { flg = start.flg; pmon = start.pmon })) × (result.set ≡ members (decode log.now).records (record { flg = start.flg; pmon = start.pmon }) named) }
+    ensures { (result.quiet ≡ quiet (decode log.now).records start) × (result.set ≡ members (decode log.now).records start named) }
 {
     let mut w = Walked {
         modes: start,
@@ -81,7 +80,7 @@ pub(crate) fn walk(named: u8, start: Modes, log: &[u8]) -> Walked
     };
     let mut at: usize = 0;
     loop {
-        let Next::On { found, at: behind } = read(log, at) else {
+        let Ok(Some((found, behind))) = read(log, at) else {
             return w;
         };
         w = w.past(found);

@@ -1,10 +1,9 @@
 // Whether two logs are the same records in the same order without the named voices' own writes.
 ghost use Rattle.std.specs.Prelude.{◌≡◌, ◌<◌};
-ghost use Rattle.chip_log.specs.Log.{Known, decode};
-ghost use Rattle.chip_log.specs.declared.Record.TheVariants.{Write, Ticks, Reading};
-ghost use Rattle.rework.specs.Alike.{named, stays, same_record, alike, Opens};
+ghost use Rattle.chip_log.specs.Log.{Known, decode, next_of};
+ghost use Rattle.rework.specs.Alike.{named, stays, alike, Opens};
 
-use chip_log::{Next, Record, read};
+use chip_log::{Record, read};
 use numbers::bit;
 
 // One of $j0 .. $j7 of a named voice j.
@@ -20,95 +19,43 @@ fn is_staying(set: u8, found: Record) -> bool
     ensures { result ≡ stays set found }
 {
     match found {
-        Record::Write { register, value: _ } => !is_named(set, register),
-        Record::Ticks { count: _ } => true,
-        Record::Reading { register: _ } => true,
+        Record::Write { register, .. } => !is_named(set, register),
+        _ => true,
     }
 }
 
-// The next record that stays, from a place on.
-fn next_staying(set: u8, log: &[u8], from: usize) -> Next
-    ensures { Opens set log.now from result }
+// The next record that stays, from a place on, and the place behind it.
+#[tactic(auto, using(crate::proofs::Stays::closed, crate::proofs::Stays::staying, crate::proofs::Stays::passing, chip_log::proofs::Turn::moved))]
+fn next_staying(set: u8, log: &[u8], from: usize) -> Option<(Record, usize)>
+    ensures { Opens set log.now from (next_of (Ok result)) }
 {
     let mut at = from;
     loop {
-        let Next::On { found, at: behind } = read(log, at) else {
-            return Next::Off(0);
+        let Ok(Some((found, behind))) = read(log, at) else {
+            return None;
         };
         if is_staying(set, found) {
-            return Next::On { found, at: behind };
+            return Some((found, behind));
         }
         at = behind;
     }
 }
 
-fn is_write(found: Record, r: u8, x: u8) -> bool
-    ensures { result ≡ same_record (Write r x) found }
-{
-    match found {
-        Record::Write { register, value } => (r == register) & (x == value),
-        Record::Ticks { count: _ } => false,
-        Record::Reading { register: _ } => false,
-    }
-}
-
-fn is_ticks(found: Record, n: u16) -> bool
-    ensures { result ≡ same_record (Ticks n) found }
-{
-    match found {
-        Record::Write {
-            register: _,
-            value: _,
-        } => false,
-        Record::Ticks { count } => n == count,
-        Record::Reading { register: _ } => false,
-    }
-}
-
-fn is_reading(found: Record, r: u8) -> bool
-    ensures { result ≡ same_record (Reading r) found }
-{
-    match found {
-        Record::Write {
-            register: _,
-            value: _,
-        } => false,
-        Record::Ticks { count: _ } => false,
-        Record::Reading { register } => r == register,
-    }
-}
-
-fn is_same(a: Record, b: Record) -> bool
-    ensures { result ≡ same_record a b }
-{
-    match a {
-        Record::Write { register, value } => is_write(b, register, value),
-        Record::Ticks { count } => is_ticks(b, count),
-        Record::Reading { register } => is_reading(b, register),
-    }
-}
-
 // Both logs are walked together, each past the named voices' own writes.
+#[tactic(auto, unfolding(chip_log::specs::Log::decode, crate::specs::Alike::same_records, crate::specs::Alike::alike), using(crate::proofs::Stays::none_left, crate::proofs::Stays::differ))]
 pub(crate) fn are_alike(set: u8, old: &[u8], new: &[u8]) -> bool
     ensures { result ≡ alike set (decode old.now).records (decode new.now).records }
 {
     let mut i: usize = 0;
     let mut j: usize = 0;
     loop {
-        let Next::On { found, at } = next_staying(set, old, i) else {
-            let Next::Off(_) = next_staying(set, new, j) else {
-                return false;
-            };
-            return true;
+        let Some((found, at)) = next_staying(set, old, i) else {
+            return next_staying(set, new, j).is_none();
         };
-        let Next::On {
-            found: other,
-            at: behind,
-        } = next_staying(set, new, j)
-        else {
+        let Some((other, behind)) = next_staying(set, new, j) else {
             return false;
         };
-        if !is_same(found, other) {
+        if found != other {
             return false;
         }
         i = at;

@@ -1,5 +1,4 @@
--- A part: that it moves on, what its ticks leave, and its answer by the tests before them.
-use mathlib.Core.Bool.{false}
+-- A part: that it moves on, and what its ticks leave.
 use mathlib.Core.List.{List, ◌++◌}
 use mathlib.Core.Logic.{◌≢◌}
 use mathlib.Core.Path.{◌≡◌, refl, ap}
@@ -7,19 +6,18 @@ use Prim.Native.Nat.{ℕ, zero, suc, ◌-◌, ◌*◌, ◌≤◌}
 use native.Mathlib.Omega.{arith}
 use lib.ListN.{length, take, drop}
 use lib.Seq.{length-take-le}
-use borrow.Author.Tests.{eq-eqb, ne_eqb}
-use Rattle.dsp.specs.Fit.{Fit, fit}
+use borrow.Author.Tests.{ne_eqb}
+use Rattle.dsp.specs.Fit.{Fit}
 use Rattle.dsp.specs.Tick.{everything}
 use Rattle.dsp.specs.Ticks.{bench_of, Drove, drive_of}
 use Rattle.dsp.specs.declared.registers.Dsp.{Dsp}
-use Rattle.dsp.specs.declared.tick.Work.{Work}
 use Rattle.dsp.proofs.Batches.{driven}
 use Rattle.chip_log.specs.Log.{read_at, Moves}
 use Rattle.chip_log.specs.declared.Record.TheVariants.{Write, Ticks, Reading}
-use Rattle.chip_log.specs.declared.Next.{Next}
-use Rattle.chip_log.specs.declared.Next.TheVariants.{On, Off}
+use Rattle.chip_log.specs.Log.{Next}
+use Rattle.chip_log.specs.Log.{On, Off}
 use Rattle.chip_log.proofs.Places.{moves}
-use Rattle.sitting.specs.Parts.{Told, Parted, telling, untold, stop_at, record_at, next_at, sounding_from, sounding, part_of, Goes}
+use Rattle.sitting.specs.Parts.{Told, Parted, telling, untold, stop_at, record_at, next_at, sounding_from, sounding, Goes}
 use Rattle.sitting.specs.declared.parts.Heard.TheVariants.{Sound}
 use Rattle.sitting.proofs.Runs.{ticks_unseen}
 
@@ -47,25 +45,10 @@ sound_goes n at left size d ram pcm e l m = rw e (refl, omega arith)
 
 -- ---- the ticks
 
-pub sound-is : (w : Work) (n : ℕ) (d : Dsp) (at left : ℕ) (ram pcm sheet : List ℕ) (x : Drove) (told : Told) → w ≡ everything → length ram ≡ 0x10000 → Fit d
-    → n * 4 ≤ length pcm → length sheet ≡ n * 36 → x ≡ drive_of w n d ram (take (n * 4) pcm) sheet → told ≡ telling x.dsp at (left - n) (Sound n)
+pub sound-is : (n : ℕ) (d : Dsp) (at left : ℕ) (ram pcm sheet : List ℕ) (x : Drove) (told : Told) → length ram ≡ 0x10000 → Fit d
+    → n * 4 ≤ length pcm → length sheet ≡ n * 36 → x ≡ drive_of everything n d ram (take (n * 4) pcm) sheet → told ≡ telling x.dsp at (left - n) (Sound n)
     → ◌≡◌ {A = Parted} (record { told = told; ram = x.ram; pcm = x.pcm ++ drop (n * 4) pcm }) (sounding n d at left ram pcm)
 unfolding sounding
-sound-is w n d at left ram pcm sheet x told ew lr f hp ls ex et =
-    rw (et, ex, ew, driven everything n d ram (take (n * 4) pcm) sheet lr f (length-take-le (n * 4) pcm hp) ls)
+sound-is n d at left ram pcm sheet x told lr f hp ls ex et =
+    rw (et, ex, driven everything n d ram (take (n * 4) pcm) sheet lr f (length-take-le (n * 4) pcm hp) ls)
     (ap (sounding_from n at left pcm) (ticks_unseen n (bench_of d ram sheet)))
-
--- ---- the first two refusals, in their order
-
--- what is promised of a part that leaves p
-abbrev Answers : Dsp → ℕ → ℕ → List ℕ → List ℕ → List ℕ → Parted → Type 0
-Answers d at left ram log pcm p = (p ≡ part_of d at left ram log pcm) × Goes at left (length log) p.told
-
-module _ (d : Dsp) (at left : ℕ) (ram log pcm : List ℕ) (t : Told) where
-  pub ram-refused : length ram ≢ 0x10000 → t ≡ untold 1 d at left → Answers d at left ram log pcm (record { told = t; ram = ram; pcm = pcm })
-  unfolding part_of
-  ram-refused l e = (rw (ne_eqb _ _ l, e), refused_goes at left _ e (λ z. absurd (omega arith)))
-
-  pub unfit_refused : length ram ≡ 0x10000 → fit d ≡ false → t ≡ untold 2 d at left → Answers d at left ram log pcm (record { told = t; ram = ram; pcm = pcm })
-  unfolding part_of
-  unfit_refused l f e = (rw (eq-eqb _ _ l, f, e), refused_goes at left _ e (λ z. absurd (omega arith)))

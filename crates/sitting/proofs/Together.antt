@@ -22,11 +22,11 @@ use Rattle.dsp.specs.Ticks.{Bench, bench_of, bench_tick, ticks_of}
 use Rattle.dsp.specs.declared.registers.Dsp.{Dsp}
 use Rattle.chip_log.specs.Log.{read_at, decode, records_from}
 use Rattle.chip_log.specs.Measure.{measure_of}
-use Rattle.chip_log.specs.declared.Measured.{Measured}
+use Rattle.chip_log.specs.Measure.{Measured}
 use Rattle.chip_log.specs.declared.Record.{Record}
 use Rattle.chip_log.specs.declared.Record.TheVariants.{Write, Ticks, Reading}
-use Rattle.chip_log.specs.declared.Next.{Next}
-use Rattle.chip_log.specs.declared.Next.TheVariants.{On, Off}
+use Rattle.chip_log.specs.Log.{Next}
+use Rattle.chip_log.specs.Log.{On, Off}
 use Rattle.chip_log.proofs.Places.{opened_at, closed_at}
 use Rattle.dsp.specs.Play.{Run, register_in, play, play_all, starting}
 use Rattle.sitting.specs.Parts.{Parted, unparted, stop_at, record_at, next_at, ticks_now, sounding, log_refusal, part_of, Rest, rest_in, rest_of, ahead, PartAfterPart, PartsBegin, PartsEnd}

@@ -18,9 +18,9 @@ use Rattle.chip_log.specs.Log.{read_at}
 use Rattle.chip_log.specs.Measure.{measure_of}
 use Rattle.chip_log.specs.declared.Record.{Record}
 use Rattle.chip_log.specs.declared.Record.TheVariants.{Write, Ticks, Reading}
-use Rattle.chip_log.specs.declared.Measured.{Measured}
-use Rattle.chip_log.specs.declared.Next.{Next}
-use Rattle.chip_log.specs.declared.Next.TheVariants.{On, Off}
+use Rattle.chip_log.specs.Measure.{Measured}
+use Rattle.chip_log.specs.Log.{Next}
+use Rattle.chip_log.specs.Log.{On, Off}
 use Rattle.chip_log.proofs.Places.{moves, ByteValue, byte_value}
 use Rattle.chip_log.proofs.Turn.{Here, Taken, taken, here_first, turned, ended}
 use Rattle.sitting.specs.Parts.{Parted, stop_at, record_at, next_at, ticks_now, sounding, log_refusal, part_of, further_parts, Roomy, PartsChecked}

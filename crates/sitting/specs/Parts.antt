@@ -1,5 +1,5 @@
 -- A run in parts: each works one record of the log, or some ticks of a TK record.
-use Rattle.std.specs.Prelude.{List, [], ◌∷◌, ◌++◌, ◌≡◌, ℕ, ◌-◌, ◌*◌, ◌/◌, ◌≤◌, ◌<◌, length, get_or, take, drop, if◌then◌else◌}
+use Rattle.std.specs.Prelude.{List, [], ◌∷◌, ◌++◌, ◌≡◌, ℕ, ◌-◌, ◌*◌, ◌/◌, ◌≤◌, ◌<◌, length, get_or, take, drop, Result, Ok, Err, if◌then◌else◌}
 use Rattle.numbers.specs.Choice.{◌<?◌, ◌=?◌}
 use Rattle.numbers.specs.Unsigned.{least}
 use Rattle.dsp.specs.Machine.{together}
@@ -12,13 +12,16 @@ use Rattle.chip_log.specs.Log.{read_at, records_from}
 use Rattle.chip_log.specs.Measure.{measure_of}
 use Rattle.chip_log.specs.declared.Record.{Record}
 use Rattle.chip_log.specs.declared.Record.TheVariants.{Write, Ticks, Reading}
-use Rattle.chip_log.specs.declared.Next.{Next}
-use Rattle.chip_log.specs.declared.Next.TheVariants.{On, Off}
+use Rattle.chip_log.specs.Log.{Next}
+use Rattle.chip_log.specs.Log.{On, Off}
 use Rattle.dsp.specs.Play.{Run, play_all, starting}
 use Rattle.dsp.specs.Run.{run_of}
 use Rattle.sitting.specs.declared.parts.Heard.{Heard}
 use Rattle.sitting.specs.declared.parts.Heard.TheVariants.{Nothing, Sound, Reading as Read, End}
 use Rattle.sitting.specs.declared.parts.Part.{Part}
+use Rattle.sitting.specs.declared.parts.Stage.{Stage}
+use Rattle.refusal.specs.Refusal.{number}
+use Rattle.refusal.specs.declared.Refused.{Refused}
 
 -- a part's answer: where the run then stands (the record, the place in the log, the ticks still to come), and what it put out
 pub record Told : Type 0 where
@@ -33,14 +36,16 @@ pub record Parted : Type 0 where
   pub ram : List ℕ
   pub pcm : List ℕ
 
-abbrev pub told_by : Part → Told
-told_by p = record { refusal = p.refusal; dsp = p.stage.dsp; at = p.stage.at; left = p.stage.left; heard = p.heard }
-
 abbrev pub telling : Dsp → ℕ → ℕ → Heard → Told
 telling d at left heard = record { refusal = 0; dsp = d; at = at; left = left; heard = heard }
 
 abbrev pub untold : ℕ → Dsp → ℕ → ℕ → Told
 untold k d at left = record { refusal = k; dsp = d; at = at; left = left; heard = Nothing }
+
+-- an answer of a part, in these words
+abbrev pub told_by : Result Part (Refused Stage) → Told
+told_by (Ok p) = telling p.stage.dsp p.stage.at p.stage.left p.heard
+told_by (Err e) = untold (number e.refusal) e.given.dsp e.given.at e.given.left
 
 -- a refused part leaves all as it was
 abbrev pub unparted : ℕ → Dsp → ℕ → ℕ → List ℕ → List ℕ → Parted

@@ -3,18 +3,19 @@
 ghost use Rattle.std.specs.Prelude.{◌≡◌, ◌*◌, ◌≤◌, length};
 ghost use Rattle.dsp.specs.Fit.{Fit};
 ghost use Rattle.chip_log.specs.Log.{read_at, Known};
-ghost use Rattle.sitting.specs.Parts.{Parted, told_by, telling, untold, stop_at, record_at, next_at, ticks_now, sounding, log_refusal, part_of, Goes};
+ghost use Rattle.refusal.specs.Refusal.{code};
+ghost use Rattle.sitting.specs.Parts.{Parted, told_by, telling, record_at, next_at, ticks_now, sounding, log_refusal, part_of, Goes};
 
-use crate::running::everything;
-use chip_log::{LOG_MOST, Next, Record, measure, read};
-use dsp::{Dsp, RAM_SIZE};
+use chip_log::{LOG_MOST, Record, measure, read};
+use dsp::{Dsp, RAM_SIZE, Work};
+use refusal::{Refusal, Refused};
 
 // So many ticks go in one call of the chip at most, as a sheet of so many rows is kept aside.
 const TICKS_AT_ONCE: u16 = 64;
 
 // Where a run in parts stands: the record, the place in the log, and the ticks of the TK record before it that are
 // still to come. These two are set here alone: a stage behind the front of a log comes of a log that was checked.
-#[derive(Clone, Copy)]
+#[derive(Clone, Copy, PartialEq, Eq)]
 pub struct Stage {
     pub dsp: Dsp,
     at: usize,
@@ -22,7 +23,7 @@ pub struct Stage {
 }
 
 // What a part puts out: nothing, so many ticks in the PCM buffer, or a reading; or the log has ended.
-#[derive(Clone, Copy)]
+#[derive(Clone, Copy, PartialEq, Eq)]
 pub enum Heard {
     Nothing,
     Sound(u16),
@@ -30,9 +31,8 @@ pub enum Heard {
     End,
 }
 
-#[derive(Clone, Copy)]
+#[derive(Clone, Copy, PartialEq, Eq)]
 pub struct Part {
-    pub refusal: u8,
     pub stage: Stage,
     pub heard: Heard,
 }
@@ -48,144 +48,109 @@ impl Stage {
             left: 0,
         }
     }
-}
 
-impl Stage {
-    fn refused(self, refusal: u8) -> Part
-        ensures { told_by result ≡ untold refusal self.dsp self.at self.left }
-    {
-        Part {
-            refusal,
-            stage: self,
-            heard: Heard::Nothing,
-        }
-    }
-
-    // 0 is the end record.
-    fn stopped(self, stop: u8) -> Part
-        requires { self.left ≡ 0 }
-        ensures { told_by result ≡ stop_at stop self.dsp self.at }
-    {
-        if stop != 0 {
-            return self.refused(stop);
-        }
-        Part {
-            refusal: 0,
-            stage: self,
-            heard: Heard::End,
-        }
-    }
-
-    fn played(self, found: Record, behind: usize) -> Part
+    #[tactic(auto, unfolding(crate::specs::Parts::record_at), using(dsp::proofs::Batches::written))]
+    fn played(self, found: Record, behind: usize) -> Result<Part, Refused<Stage>>
         requires { (self.left ≡ 0) × Known found × Fit self.dsp }
         ensures { told_by result ≡ record_at found behind self.dsp }
     {
         match found {
             Record::Write { register, value } => {
-                let d = self.dsp;
-                let a = d.write_reg(register, value);
-                let e = a.dsp;
-                told(e, behind, 0, Heard::Nothing)
+                let after = self.dsp.write_reg(register, value);
+                let dsp = after.map_err(|e| e.refusal.of(self))?;
+                Ok(told(dsp, behind, 0, Heard::Nothing))
             }
-            Record::Ticks { count } => told(self.dsp, behind, count, Heard::Nothing),
+            Record::Ticks { count } => Ok(told(self.dsp, behind, count, Heard::Nothing)),
             Record::Reading { register } => {
-                let d = self.dsp;
-                let value = d.read_reg(register);
-                told(d, behind, 0, Heard::Reading { register, value })
+                let value = self.dsp.read_reg(register);
+                Ok(told(self.dsp, behind, 0, Heard::Reading { register, value }))
             }
         }
     }
 
-    fn at_record(self, log: &[u8]) -> Part
+    #[tactic(auto, unfolding(crate::specs::Parts::next_at, crate::specs::Parts::stop_at))]
+    fn at_record(self, log: &[u8]) -> Result<Part, Refused<Stage>>
         requires { (self.left ≡ 0) × Fit self.dsp }
         ensures { (told_by result ≡ next_at (read_at log.now self.at) self.dsp self.at) × Goes self.at 0 (length log.now) (told_by result) }
     {
         match read(log, self.at) {
-            Next::Off(stop) => self.stopped(stop),
-            Next::On { found, at: behind } => self.played(found, behind),
+            Ok(Some((found, behind))) => self.played(found, behind),
+            Ok(None) => Ok(told(self.dsp, self.at, 0, Heard::End)),
+            Err(refusal) => Err(refusal.of(self)),
         }
     }
 
     // As many ticks as are left, as the buffer holds, and as go in one call.
+    #[tactic(auto, unfolding(crate::specs::Parts::ticks_now))]
     fn ticks_now(self, room: usize) -> u16
         requires { (1 ≤ self.left) × (4 ≤ room) }
         ensures { (result ≡ ticks_now self.left room) × (1 ≤ result) × (result ≤ self.left) × (result * 4 ≤ room) × (result ≤ 64) }
     {
-        let most = numbers::min(self.left, TICKS_AT_ONCE);
-        if room / 4 <= most as usize {
-            (room / 4) as u16
-        } else {
-            most
-        }
+        let most = self.left.min(TICKS_AT_ONCE);
+        (room / 4).min(most as usize) as u16
     }
 
-    fn sounded(self, n: u16, ram: &mut [u8], pcm: &mut [u8]) -> Part
+    fn sounded(self, n: u16, ram: &mut [u8], pcm: &mut [u8]) -> Result<Part, Refused<Stage>>
         requires { (length ram.old ≡ 0x10000) × Fit self.dsp × (n ≤ self.left) × (n * 4 ≤ length pcm.old) × (n ≤ 64) }
         ensures { ◌≡◌ {A = Parted} (record { told = told_by result; ram = ram.new; pcm = pcm.new }) (sounding n self.dsp self.at self.left ram.old pcm.old) }
     {
-        let mut sheet = blank_rows();
+        let mut sheet = [0; 36 * TICKS_AT_ONCE as usize];
         let to = (n as usize) * 4;
         let end = (n as usize) * 36;
-        let d = self.dsp;
-        let a = d.ticks(everything(), n, ram, &mut pcm[..to], &mut sheet[..end]);
-        let e = a.dsp;
-        told(e, self.at, self.left - n, Heard::Sound(n))
+        match self.dsp.ticks(Work::EVERYTHING, n, ram, &mut pcm[..to], &mut sheet[..end]) {
+            Ok(dsp) => Ok(told(dsp, self.at, self.left - n, Heard::Sound(n))),
+            Err(e) => Err(e.refusal.of(self)),
+        }
     }
 }
 
-// The rows of 64 ticks.
-fn blank_rows() -> [u8; 2304]
-    ensures { length result ≡ 2304 }
-{
-    [0; 2304]
-}
-
 fn told(dsp: Dsp, at: usize, left: u16, heard: Heard) -> Part
-    ensures { told_by result ≡ telling dsp at left heard }
+    ensures { told_by (Ok result) ≡ telling dsp at left heard }
 {
-    let stage = Stage { dsp, at, left };
     Part {
-        refusal: 0,
-        stage,
+        stage: Stage { dsp, at, left },
         heard,
     }
 }
 
 // The log's refusal: the whole log's where a run begins, and behind that its length's.
-fn log_refusal(at: usize, log: &[u8]) -> u8
-    ensures { result ≡ log_refusal at log.now }
+#[tactic(auto, unfolding(crate::specs::Parts::log_refusal))]
+fn log_refusal(at: usize, log: &[u8]) -> Result<(), Refusal>
+    ensures { code result ≡ log_refusal at log.now }
 {
     if at == 0 {
-        let m = measure(log);
-        return m.refusal;
+        measure(log)?;
+    } else if log.len() > LOG_MOST {
+        return Err(Refusal::LogTooLong);
     }
-    if log.len() > LOG_MOST {
-        return 3;
-    }
-    0
+    Ok(())
 }
 
 // One part. Refuses 1, 2, then by 3 to 9 the log, all of it before the first tick; with ticks left, a buffer without room for one
 // by 10. Behind the front of a log 3 to 9 are for a caller who hands in another log than the one that was checked.
-pub fn run_part(stage: Stage, ram: &mut [u8], log: &[u8], pcm: &mut [u8]) -> Part
+#[tactic(auto, unfolding(crate::specs::Parts::part_of), using(crate::proofs::Parting::refused_goes, refusal::proofs::Numbers::positive))]
+pub fn run_part(
+    stage: Stage,
+    ram: &mut [u8],
+    log: &[u8],
+    pcm: &mut [u8],
+) -> Result<Part, Refused<Stage>>
     ensures { (◌≡◌ {A = Parted} (record { told = told_by result; ram = ram.new; pcm = pcm.new }) (part_of stage.dsp stage.at stage.left ram.old log.now pcm.old)) × Goes stage.at stage.left (length log.now) (told_by result) }
 {
-    let d = stage.dsp;
     if ram.len() != RAM_SIZE {
-        return stage.refused(1);
+        return Err(Refusal::RamSize.of(stage));
     }
-    if !d.is_fit() {
-        return stage.refused(2);
+    if !stage.dsp.is_fit() {
+        return Err(Refusal::Unfit.of(stage));
     }
-    let refusal = log_refusal(stage.at, log);
-    if refusal != 0 {
-        return stage.refused(refusal);
+    if let Err(refusal) = log_refusal(stage.at, log) {
+        return Err(refusal.of(stage));
     }
     if stage.left == 0 {
         return stage.at_record(log);
     }
     if pcm.len() < 4 {
-        return stage.refused(10);
+        return Err(Refusal::WrongRoom.of(stage));
     }
     let n = stage.ticks_now(pcm.len());
     stage.sounded(n, ram, pcm)

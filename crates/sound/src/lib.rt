@@ -28,7 +28,7 @@ pub fn even(x: i16) -> i16
 pub fn joined(lo: u8, hi: u8) -> i16
     ensures { result ≡ joined lo hi }
 {
-    numbers::cut16((lo as i32) + 256 * (hi as i32)) as i16
+    i16::from_le_bytes([lo, hi])
 }
 
 // A product with a signed volume.
@@ -79,11 +79,9 @@ fn fir_tap(x: i16, tap: i8) -> i32
 fn fir_sum(h: [i16; 8], taps: [i8; 8]) -> i32
     ensures { result ≡ fir_sum h taps 7 }
 {
-    let mut sum: i32 = 0;
-    let mut i: usize = 0;
-    while i < 7 {
-        sum = sum + fir_tap(h[i], taps[i]);
-        i += 1;
+    let mut sum = 0;
+    for i in 0..7 {
+        sum += fir_tap(h[i], taps[i]);
     }
     sum
 }

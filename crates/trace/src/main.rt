@@ -6,14 +6,8 @@
 mod cases;
 mod ticks;
 
-use report::lines;
-use std::fs;
+use report::cases::each;
 
 fn main(rt: HostRuntime) {
-    match fs::open(&rt, "cases") {
-        Ok(mut found) => cases::all(&rt, &mut found),
-        Err(_) => {
-            lines::say(&rt, b"cases cannot be read\n");
-        }
-    }
+    each(&rt, |file, number| cases::next(&rt, file, number));
 }

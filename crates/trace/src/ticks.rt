@@ -1,19 +1,21 @@
 // A log that `run_new` took, run again by `write_reg`, `step` and `render_audio_single`, with a digest over every tick.
-use chip_log::{Next, Record, read};
+use chip_log::{Record, read};
 use dsp::Dsp;
 use report::digest::{EMPTY, with_byte, with_bytes, with_reads, with_registers, with_sample};
 use report::left::Left;
 use report::lines;
 
-// How far a run has come: the chip, the digests of samples, readings and every tick, and a refusal that ends it.
+// How far a run has come: the chip, and the digests of samples, readings and every tick.
 #[derive(Clone, Copy)]
 struct Run {
-    refusal: u8,
     dsp: Dsp,
     pcm: u64,
     readings: u64,
     trace: u64,
 }
+
+// A run goes on, or a refusal has ended it where it stands.
+type Step = Result<Run, Run>;
 
 // "The direct register write masks its index with $7F": an odd value goes with bit 7 of the register's number set.
 fn index(register: u8, value: u8) -> u8 {
@@ -26,93 +28,81 @@ fn index(register: u8, value: u8) -> u8 {
 
 impl Run {
     fn new() -> Self {
-        let d = Dsp::new();
         Run {
-            refusal: 0,
-            dsp: d,
+            dsp: Dsp::new(),
             pcm: EMPTY,
             readings: EMPTY,
             trace: EMPTY,
         }
     }
 
-    fn write(mut self, register: u8, value: u8) -> Self {
-        let d = self.dsp;
-        let a = d.write_reg(index(register, value), value);
-        let e = a.dsp;
-        self.refusal = a.refusal;
-        self.dsp = e;
-        self
+    fn write(self, register: u8, value: u8) -> Step {
+        match self.dsp.write_reg(index(register, value), value) {
+            Ok(dsp) => Ok(Run { dsp, ..self }),
+            Err(_) => Err(self),
+        }
     }
 
     // A tick is `step`, then `render_audio_single`.
-    fn tick(mut self, ram: &mut [u8]) -> Self {
-        let d = self.dsp;
-        let a = d.step(ram);
-        let e = a.dsp;
-        self.dsp = e;
-        if a.refusal != 0 {
-            self.refusal = a.refusal;
-            return self;
-        }
-        let s = e.render_audio_single();
-        self.refusal = s.refusal;
-        self.pcm = with_sample(self.pcm, s);
-        let read = with_reads(with_registers(self.trace, e), e);
-        self.trace = with_bytes(with_sample(read, s), ram);
-        self
+    fn tick(self, ram: &mut [u8]) -> Step {
+        let Ok(dsp) = self.dsp.step(ram) else {
+            return Err(self);
+        };
+        let Ok(s) = dsp.render_audio_single() else {
+            return Err(self);
+        };
+        let read = with_reads(with_registers(self.trace, dsp), dsp);
+        Ok(Run {
+            dsp,
+            pcm: with_sample(self.pcm, s),
+            trace: with_bytes(with_sample(read, s), ram),
+            ..self
+        })
     }
 
-    fn reading(mut self, register: u8) -> Self {
-        let d = self.dsp;
-        self.readings = with_byte(self.readings, d.read_reg(register));
-        self
+    fn reading(self, register: u8) -> Self {
+        Run {
+            readings: with_byte(self.readings, self.dsp.read_reg(register)),
+            ..self
+        }
     }
 }
 
-fn ticked(run: Run, ram: &mut [u8], count: u16) -> Run {
+fn ticked(run: Run, ram: &mut [u8], count: u16) -> Step {
     let mut r = run;
-    let mut i: u16 = 0;
-    while i < count {
-        r = r.tick(ram);
-        if r.refusal != 0 {
-            return r;
-        }
-        i += 1;
+    for _ in 0..count {
+        r = r.tick(ram)?;
     }
-    r
+    Ok(r)
 }
 
-fn played(run: Run, ram: &mut [u8], found: Record) -> Run {
+fn played(run: Run, ram: &mut [u8], found: Record) -> Step {
     match found {
         Record::Write { register, value } => run.write(register, value),
         Record::Ticks { count } => ticked(run, ram, count),
-        Record::Reading { register } => run.reading(register),
+        Record::Reading { register } => Ok(run.reading(register)),
     }
 }
 
-fn run_records(log: &[u8], ram: &mut [u8]) -> Run {
+fn run_records(log: &[u8], ram: &mut [u8]) -> Step {
     let mut r = Run::new();
     let mut at: usize = 0;
-    loop {
-        let Next::On { found, at: behind } = read(log, at) else {
-            return r;
-        };
-        r = played(r, ram, found);
-        if r.refusal != 0 {
-            return r;
-        }
+    while let Ok(Some((found, behind))) = read(log, at) {
+        r = played(r, ram, found)?;
         at = behind;
     }
+    Ok(r)
 }
 
 // `whole`: what the same log left when it was run whole, on the same image.
 pub fn run_ticks(out: &impl Print, log: &[u8], ram: &mut [u8], whole: Left) {
-    let r = run_records(log, ram);
-    let d = r.dsp;
-    let left = Left::by(d, ram, r.pcm, r.readings);
+    let (r, refused) = match run_records(log, ram) {
+        Ok(r) => (r, false),
+        Err(r) => (r, true),
+    };
+    let left = Left::by(r.dsp, ram, r.pcm, r.readings);
     lines::digest(out, b"TRACE ", r.trace);
-    if (r.refusal != 0) | !left.same(whole) {
+    if refused | !left.same(whole) {
         lines::say(out, b"DIFFERS\n");
     }
 }

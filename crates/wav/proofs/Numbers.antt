@@ -1,30 +1,21 @@
--- Numbers in bytes, low byte first, as they are written byte by byte.
-use mathlib.Core.List.{List, [], ◌∷◌, ◌++◌, append-nil}
-use mathlib.Core.Path.{◌≡◌, refl, sym, ap, ◌∙◌}
-use Prim.Native.Nat.{ℕ, suc, ◌+◌, ◌-◌, ◌/◌, ◌%◌, ◌<◌}
+-- Numbers in bytes, low byte first, as the library gives them.
+use mathlib.Core.List.{List, [], ◌∷◌, ◌++◌}
+use mathlib.Core.Path.{◌≡◌, ap, ◌∙◌}
+use Prim.Native.Nat.{ℕ, ◌+◌, ◌/◌, ◌%◌}
 use native.Mathlib.Omega.{arith}
-use lib.ListN.{length, take, set}
-use lib.Seq.{append_snoc, take_all}
-use Rattle.numbers.proofs.Parts.{one_more}
+use lib.ListN.{length}
+use borrow.Rule.Slice.PartMut.{put_mid}
+use Rattle.numbers.proofs.Parts.{Written, part-put}
 use Rattle.wav.specs.Wav.{in_bytes}
 
--- the first byte, then the others
-digits : (n i x : ℕ) → i < n → in_bytes (n - i) x ≡ x % 0x100 ∷ in_bytes (n - (i + 1)) (x / 0x100)
+pub four_bytes : (x : ℕ) → x % 0x100 ∷ x / 0x100 % 0x100 ∷ x / 0x10000 % 0x100 ∷ x / 0x1000000 % 0x100 ∷ [] ≡ in_bytes 4 x
 unfolding in_bytes
-digits n i x h = let e : n - i ≡ suc (n - (i + 1)) = omega arith in ap (λ (k : ℕ). in_bytes k x) e
+four_bytes x =
+    let e : x / 0x10000 ≡ x / 0x100 / 0x100 = omega arith in
+    let f : x / 0x1000000 ≡ x / 0x100 / 0x100 / 0x100 = omega arith in
+    λ i. x % 0x100 ∷ x / 0x100 % 0x100 ∷ e i % 0x100 ∷ f i % 0x100 ∷ []
 
--- one byte more stands, and a byte less is left to write
-pub digit_more : (n i x rest : ℕ) (to : List ℕ) → i < n → length to ≡ n → take i to ++ in_bytes (n - i) rest ≡ in_bytes n x
-    → take (i + 1) (set to i (rest % 0x100)) ++ in_bytes (n - (i + 1)) (rest / 0x100) ≡ in_bytes n x
-digit_more n i x rest to h l e =
-    ap (λ (t : List ℕ). t ++ in_bytes (n - (i + 1)) (rest / 0x100)) (one_more to i (rest % 0x100) (rest % 0x100) refl (omega arith))
-    ∙ append_snoc (take i to) (rest % 0x100) (in_bytes (n - (i + 1)) (rest / 0x100))
-    ∙ ap (λ (t : List ℕ). take i to ++ t) (sym (digits n i rest h)) ∙ e
-
--- all of them stand
-pub digits_all : (n i x rest : ℕ) (to : List ℕ) → i ≡ n → length to ≡ n → take i to ++ in_bytes (n - i) rest ≡ in_bytes n x → to ≡ in_bytes n x
-unfolding in_bytes
-digits_all n i x rest to h l e =
-    let d : n - i ≡ 0 = omega arith in
-    let z : in_bytes (n - i) rest ≡ [] = ap (λ (k : ℕ). in_bytes k rest) d in
-    sym ((λ j. take_all i to (omega arith) j ++ z j) ∙ append-nil to) ∙ e
+-- a field whose bytes are known by another name
+pub field : {old new done : List ℕ} {a : ℕ} → Written old new a done → (k : ℕ) (ys : List ℕ) {bytes next : List ℕ}
+    → next ≡ put_mid a (length bytes) new bytes → bytes ≡ ys → length ys ≡ k → Written old next (a + k) (done ++ ys)
+field {new = new} {a = a} w k ys e f l = part-put w k ys (e ∙ (λ i. put_mid a (length (f i)) new (f i)) ∙ ap (λ (n : ℕ). put_mid a n new ys) l) l

@@ -1,8 +1,9 @@
 -- Sound files of a sitting (document 02, W-201): "RIFF/WAVE, PCM, two channels, 16 bits, 32,000 frames a second, a 44-byte header, then
 -- the samples. .. Every header field follows from the frame count."
-use Rattle.std.specs.Prelude.{Bool, true, false, not, ◌&&◌, List, [], ◌∷◌, ◌++◌, ℕ, zero, suc, ◌+◌, ◌*◌, ◌/◌, ◌%◌, length, drop, if◌then◌else◌}
+use Rattle.std.specs.Prelude.{Bool, true, false, not, ◌&&◌, List, [], ◌∷◌, ◌++◌, ℕ, zero, suc, ◌+◌, ◌*◌, ◌/◌, ◌%◌, length, drop, Result, Ok, Err, if◌then◌else◌}
 use Rattle.numbers.specs.Choice.{◌≤?◌, ◌=?◌}
-use Rattle.wav.specs.declared.Frames.{Frames}
+use Rattle.refusal.specs.Refusal.{number}
+use Rattle.refusal.specs.declared.Refusal.{Refusal}
 
 -- ---- the header's fields
 
@@ -111,8 +112,18 @@ filed_of pcm file =
     if not (length file =? header_size + length pcm) then record { refusal = 10; file = file } else
     record { refusal = 0; file = wav_of pcm }
 
+-- a file's frames; or its refusal, and no frames
+pub record Frames : Type 0 where
+  pub refusal : ℕ
+  pub frames : ℕ
+
 abbrev pub refused_by : ℕ → Frames
 refused_by refusal = record { refusal = refusal; frames = 0 }
+
+-- an answer of `wav_frames` or `read_wav`, in these words
+abbrev pub frames_as : Result ℕ Refusal → Frames
+frames_as (Ok n) = record { refusal = 0; frames = n }
+frames_as (Err r) = refused_by (number r)
 
 -- "13 for a file not of this layout"
 unfoldable pub frames_of : List ℕ → Frames

@@ -3,9 +3,10 @@
 
 ghost use Rattle.std.specs.Prelude.{◌≡◌, ◌-◌, ◌≤◌, length};
 ghost use borrow.Rule.Slice.PartMut.{put_mid};
-ghost use Rattle.wav.specs.Wav.{in_bytes, header_of, is_sound, same_bytes, Filed, filed_of, refused_by, frames_of, Restored, read_of};
+ghost use Rattle.refusal.specs.Refusal.{code};
+ghost use Rattle.wav.specs.Wav.{header_of, is_sound, Filed, filed_of, frames_as, frames_of, Restored, read_of};
 
-use numbers::copy;
+use refusal::Refusal;
 
 const HEADER_SIZE: usize = 44;
 
@@ -13,73 +14,49 @@ const FRAMES_MOST: usize = 32000;
 
 const FORMAT_SIZE: u32 = 16;
 
-const PCM: u32 = 1;
+const PCM: u16 = 1;
 
-const CHANNELS: u32 = 2;
+const CHANNELS: u16 = 2;
 
 const FRAMES_A_SECOND: u32 = 32000;
 
-const BITS_A_SAMPLE: u32 = 16;
+const BITS_A_SAMPLE: u16 = 16;
 
 // A sample of each channel.
-const BYTES_A_FRAME: u32 = CHANNELS * BITS_A_SAMPLE / 8;
+const BYTES_A_FRAME: u16 = CHANNELS * BITS_A_SAMPLE / 8;
 
-// A file's frames; or its refusal, and no frames.
-#[derive(Clone, Copy)]
-pub struct Frames {
-    pub refusal: u8,
-    pub frames: u32,
-}
-
-// A number that fills the slice, low byte first.
-fn put_bytes(x: u32, to: &mut [u8])
-    ensures { to.new ≡ in_bytes (length to.old) x }
+fn put(header: &mut [u8; HEADER_SIZE], at: usize, bytes: &[u8])
+    requires { (at ≤ 44) × (length bytes.now ≤ 44 - at) }
+    ensures { header.new ≡ put_mid at (length bytes.now) header.old bytes.now }
 {
-    let mut rest = x;
-    let mut i: usize = 0;
-    while i < to.len() {
-        to[i] = (rest % 0x100) as u8;
-        rest /= 0x100;
-        i += 1;
-    }
-}
-
-fn put_name(header: &mut [u8], at: usize, name: &[u8; 4])
-    requires { (at ≤ 40) × (length header.old ≡ 44) }
-    ensures { header.new ≡ put_mid at 4 header.old name.now }
-{
-    let end = at + 4;
-    copy(name, &mut header[at..end]);
-}
-
-fn put_number(header: &mut [u8], at: usize, width: usize, x: u32)
-    requires { (at ≤ 44) × (width ≤ 44 - at) × (length header.old ≡ 44) }
-    ensures { header.new ≡ put_mid at width header.old (in_bytes width x) }
-{
-    let end = at + width;
-    put_bytes(x, &mut header[at..end]);
+    header[at..at + bytes.len()].copy_from_slice(bytes);
 }
 
 // "Every header field follows from the frame count."
-fn header_of(frames: u32) -> [u8; 44]
+fn header_of(frames: u32) -> [u8; HEADER_SIZE]
     requires { frames ≤ 32000 }
     ensures { result ≡ header_of frames }
 {
-    let data_size = frames * BYTES_A_FRAME;
-    let mut header = [0u8; 44];
-    put_name(&mut header, 0, b"RIFF");
-    put_number(&mut header, 4, 4, 36 + data_size);
-    put_name(&mut header, 8, b"WAVE");
-    put_name(&mut header, 12, b"fmt ");
-    put_number(&mut header, 16, 4, FORMAT_SIZE);
-    put_number(&mut header, 20, 2, PCM);
-    put_number(&mut header, 22, 2, CHANNELS);
-    put_number(&mut header, 24, 4, FRAMES_A_SECOND);
-    put_number(&mut header, 28, 4, FRAMES_A_SECOND * BYTES_A_FRAME);
-    put_number(&mut header, 32, 2, BYTES_A_FRAME);
-    put_number(&mut header, 34, 2, BITS_A_SAMPLE);
-    put_name(&mut header, 36, b"data");
-    put_number(&mut header, 40, 4, data_size);
+    let bytes_a_frame = BYTES_A_FRAME as u32;
+    let data_size = frames * bytes_a_frame;
+    let mut header = [0; HEADER_SIZE];
+    put(&mut header, 0, b"RIFF");
+    put(&mut header, 4, &(36 + data_size).to_le_bytes());
+    put(&mut header, 8, b"WAVE");
+    put(&mut header, 12, b"fmt ");
+    put(&mut header, 16, &FORMAT_SIZE.to_le_bytes());
+    put(&mut header, 20, &PCM.to_le_bytes());
+    put(&mut header, 22, &CHANNELS.to_le_bytes());
+    put(&mut header, 24, &FRAMES_A_SECOND.to_le_bytes());
+    put(
+        &mut header,
+        28,
+        &(FRAMES_A_SECOND * bytes_a_frame).to_le_bytes(),
+    );
+    put(&mut header, 32, &BYTES_A_FRAME.to_le_bytes());
+    put(&mut header, 34, &BITS_A_SAMPLE.to_le_bytes());
+    put(&mut header, 36, b"data");
+    put(&mut header, 40, &data_size.to_le_bytes());
     header
 }
 
@@ -90,73 +67,50 @@ fn is_sound(size: usize) -> bool
     (size % 4 == 0) & (size / 4 <= FRAMES_MOST)
 }
 
-fn same(a: &[u8], b: &[u8]) -> bool
-    requires { length a.now ≡ length b.now }
-    ensures { result ≡ same_bytes a.now b.now }
-{
-    let mut at: usize = 0;
-    while at < a.len() {
-        if a[at] != b[at] {
-            return false;
-        }
-        at += 1;
-    }
-    true
-}
-
-fn refused(refusal: u8) -> Frames
-    ensures { result ≡ refused_by refusal }
-{
-    Frames { refusal, frames: 0 }
-}
-
-// 10 for samples that are not whole frames or too many, or for a file of another length than theirs.
-pub fn write_wav(pcm: &[u8], file: &mut [u8]) -> u8
-    ensures { ◌≡◌ {A = Filed} (record { refusal = result; file = file.new }) (filed_of pcm.now file.old) }
+// Refuses samples that are not whole frames or too many, and a file of another length than theirs.
+pub fn write_wav(pcm: &[u8], file: &mut [u8]) -> Result<(), Refusal>
+    ensures { ◌≡◌ {A = Filed} (record { refusal = code result; file = file.new }) (filed_of pcm.now file.old) }
 {
     let size = pcm.len();
     if !is_sound(size) {
-        return 10;
+        return Err(Refusal::WrongRoom);
     }
     if file.len() != HEADER_SIZE + size {
-        return 10;
+        return Err(Refusal::WrongRoom);
     }
     let header = header_of((size / 4) as u32);
-    copy(&header, &mut file[..HEADER_SIZE]);
-    copy(pcm, &mut file[HEADER_SIZE..]);
-    0
+    file[..HEADER_SIZE].copy_from_slice(&header);
+    file[HEADER_SIZE..].copy_from_slice(pcm);
+    Ok(())
 }
 
-// How many frames a file has, so that a caller knows what to lend; 13 for one not of this layout.
-pub fn wav_frames(file: &[u8]) -> Frames
-    ensures { result ≡ frames_of file.now }
+// How many frames a file has, so that a caller knows what to lend; refuses one not of this layout.
+pub fn wav_frames(file: &[u8]) -> Result<u32, Refusal>
+    ensures { frames_as result ≡ frames_of file.now }
 {
     if file.len() < HEADER_SIZE {
-        return refused(13);
+        return Err(Refusal::NotWav);
     }
     let size = file.len() - HEADER_SIZE;
     if !is_sound(size) {
-        return refused(13);
+        return Err(Refusal::NotWav);
     }
     let frames = (size / 4) as u32;
     let header = header_of(frames);
-    if !same(&file[..HEADER_SIZE], &header) {
-        return refused(13);
+    if file[..HEADER_SIZE] != header[..] {
+        return Err(Refusal::NotWav);
     }
-    Frames { refusal: 0, frames }
+    Ok(frames)
 }
 
-// 13 for a file not of this layout, then 10 for a destination that is not 4 bytes a frame.
-pub fn read_wav(file: &[u8], pcm: &mut [u8]) -> Frames
-    ensures { ◌≡◌ {A = Restored} (record { frames = result; pcm = pcm.new }) (read_of file.now pcm.old) }
+// Refuses a file not of this layout, then a destination that is not 4 bytes a frame.
+pub fn read_wav(file: &[u8], pcm: &mut [u8]) -> Result<u32, Refusal>
+    ensures { ◌≡◌ {A = Restored} (record { frames = frames_as result; pcm = pcm.new }) (read_of file.now pcm.old) }
 {
-    let found = wav_frames(file);
-    if found.refusal != 0 {
-        return found;
+    let frames = wav_frames(file)?;
+    if pcm.len() != 4 * (frames as usize) {
+        return Err(Refusal::WrongRoom);
     }
-    if pcm.len() != (found.frames * BYTES_A_FRAME) as usize {
-        return refused(10);
-    }
-    copy(&file[HEADER_SIZE..], pcm);
-    found
+    pcm.copy_from_slice(&file[HEADER_SIZE..]);
+    Ok(frames)
 }

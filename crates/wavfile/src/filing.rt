@@ -1,6 +1,4 @@
 // A file read whole, turned over by the library, and what comes of it written.
-ghost use Rattle.std.specs.Prelude.{◌≤◌, length};
-
 use report::input;
 use report::lines::{complain, numbered, refused, say};
 use report::runs::within;
@@ -14,91 +12,73 @@ const HEADER_SIZE: usize = 44;
 pub fn write(rt: &HostRuntime, from: &[u8], to: &[u8]) {
     let mut pcm = [0; 128001];
     let mut file = [0; 128045];
-    write_in(rt, from, to, &mut pcm, &mut file);
+    write_on(rt, from, to, &mut pcm, &mut file);
 }
 
 pub fn read(rt: &HostRuntime, from: &[u8], to: &[u8]) {
     let mut pcm = [0; 128001];
     let mut file = [0; 128045];
-    read_in(rt, from, to, &mut pcm, &mut file);
+    read_on(rt, from, to, &mut pcm, &mut file);
 }
 
 // Behind a reference an array's length is its type's, and no check has to count its bytes.
-fn write_in(
+fn write_on(
     rt: &HostRuntime,
     from: &[u8],
     to: &[u8],
     pcm: &mut [u8; 128001],
     file: &mut [u8; 128045],
 ) {
-    write_on(rt, from, to, pcm, file);
-}
-
-fn read_in(
-    rt: &HostRuntime,
-    from: &[u8],
-    to: &[u8],
-    pcm: &mut [u8; 128001],
-    file: &mut [u8; 128045],
-) {
-    read_on(rt, from, to, pcm, file);
-}
-
-fn write_on(rt: &HostRuntime, from: &[u8], to: &[u8], pcm: &mut [u8], file: &mut [u8])
-    requires { length pcm.old ≤ 128001 }
-{
-    let took = input::file(rt, from, pcm);
-    if took.failed {
+    let Some(n) = input::file(rt, from, pcm) else {
         cannot(rt, b"read ", from);
         return;
-    }
-    let n = took.size;
+    };
     let end = within(HEADER_SIZE + n, file);
     wrote(rt, to, &pcm[..n], &mut file[..end]);
 }
 
 fn wrote(rt: &HostRuntime, to: &[u8], pcm: &[u8], file: &mut [u8]) {
-    let refusal = write_wav(pcm, file);
-    if refusal != 0 {
-        told(
+    match write_wav(pcm, file) {
+        Ok(()) => saved(rt, to, file, (pcm.len() / 4) as u64),
+        Err(refusal) => told(
             rt,
             refused(rt, refusal)
                 && say(
                     rt,
                     b"The samples are not whole frames of 4 bytes, or more than 32,000.\n",
                 ),
-        );
-        return;
+        ),
     }
-    saved(rt, to, file, (pcm.len() / 4) as u64);
 }
 
-fn read_on(rt: &HostRuntime, from: &[u8], to: &[u8], pcm: &mut [u8], file: &mut [u8]) {
-    let took = input::file(rt, from, file);
-    if took.failed {
+fn read_on(
+    rt: &HostRuntime,
+    from: &[u8],
+    to: &[u8],
+    pcm: &mut [u8; 128001],
+    file: &mut [u8; 128045],
+) {
+    let Some(n) = input::file(rt, from, file) else {
         cannot(rt, b"read ", from);
         return;
-    }
-    let n = took.size;
-    let found = wav_frames(&file[..n]);
-    let end = within((found.frames as usize) * 4, pcm);
+    };
+    let frames = wav_frames(&file[..n]).unwrap_or(0);
+    let end = within((frames as usize) * 4, pcm);
     restored(rt, to, &file[..n], &mut pcm[..end]);
 }
 
 fn restored(rt: &HostRuntime, to: &[u8], file: &[u8], pcm: &mut [u8]) {
-    let got = read_wav(file, pcm);
-    if got.refusal != 0 {
-        told(
+    match read_wav(file, pcm) {
+        Ok(frames) => saved(rt, to, pcm, u64::from(frames)),
+        Err(refusal) => told(
             rt,
-            refused(rt, got.refusal)
+            refused(rt, refusal)
                 && say(
                     rt,
                     b"The file is not of this layout: WAV, PCM, two channels, 16 bits, 32,000 frames a second, 32,000 frames at most, a header of 44 bytes and nothing behind the samples.\n",
                 ),
-        );
-        return;
+        ),
     }
-    saved(rt, to, pcm, got.frames as u64);
 }
 
 fn saved(rt: &HostRuntime, to: &[u8], bytes: &[u8], frames: u64) {

@@ -1,35 +1,40 @@
 -- What is left from each place gives the whole answer. The measure is the bytes that are left.
-use Prim.Native.Nat.{◌+◌, ◌<◌}
-use native.Mathlib.Omega.{arith}
+use Rattle.std.proofs.Common.{◌≡◌, ◌+◌, ◌<◌, Err, sym, ◌∙◌, rules, arith}
 use borrow.Author.Tests.{le-ltb, lt-ltb}
+use Rattle.chip_log.specs.Log.{On, Off, next_of}
 use Rattle.chip_log.specs.Measure.{measure_of, ticks_in}
-use Rattle.chip_log.proofs.Turn.{here_first, stop, over, turn}
+use Rattle.refusal.specs.Refusal.{number}
+use Rattle.chip_log.proofs.Turn.{here_first, stop, over, turn, refused_at}
 use Rattle.chip_log.proofs.measure.Goals as goal
 
 pub returns-then-log-gt-LOG_MOST : goal.returns-then-log-gt-LOG_MOST
 unfolding measure_of
-returns-then-log-gt-LOG_MOST c = rw (c.refused.ensures, lt-ltb _ _ c.if-log-gt-LOG_MOST.true)
+returns-then-log-gt-LOG_MOST c = rw (lt-ltb _ _ c.if-log-gt-LOG_MOST.true)
 
-pub loop-stop-init : goal.loop-stop-init
-loop-stop-init c = here_first _
+pub loop-found-init : goal.loop-found-init
+loop-found-init c = here_first _
 
-pub returns-in-Off : goal.returns-in-Off
+pub returns-in_err-found : goal.returns-in_err-found
 unfolding measure_of
-returns-in-Off c = rw (c.ended.ensures, le-ltb _ _ c.if-log-gt-LOG_MOST.false) (stop c.loop-stop.invariant c.read.ensures.0 c.in-Off.is)
-
-pub overflow_add-ticks : goal.overflow_add-ticks
-overflow_add-ticks c = let i = c.loop-stop.invariant in let b = c.ticks_of-ticks.ensures.1 in let n = i.few in omega arith
+returns-in_err-found c =
+    let e : c.from_residual.result ≡ Err c.in_err-found.field-0.0 = search rules in
+    let n : next_of c.read.result ≡ Off (number c.in_err-found.field-0.0) = rw c.in_err-found.was in
+    rw (e, le-ltb _ _ c.if-log-gt-LOG_MOST.false) (sym (refused_at _ _ _) ∙ stop c.loop-found.invariant c.read.ensures.0 n)
 
 pub returns-then-ticks-gt-TICKS_MOST : goal.returns-then-ticks-gt-TICKS_MOST
 unfolding measure_of
-returns-then-ticks-gt-TICKS_MOST c = let h : 32000 < c.loop-stop.ticks + ticks_in c.in-On.found = omega (arith, c.if-ticks-gt-TICKS_MOST.true, c.ticks_of-ticks.ensures.0) in
-    rw (c.refused-then-ticks-gt-TICKS_MOST.ensures, le-ltb _ _ c.if-log-gt-LOG_MOST.false) (over c.loop-stop.invariant c.read.ensures.0 c.in-On.is h)
+returns-then-ticks-gt-TICKS_MOST c =
+    let n : next_of c.read.result ≡ On c.in-Some.found c.in-Some.after = rw (c.in_ok-found.was, c.in-Some.is) in
+    let h : 32000 < c.loop-found.ticks + ticks_in c.in-Some.found = omega (arith, c.if-ticks-gt-TICKS_MOST.true, c.ticks_of-ticks.ensures.0) in
+    rw (le-ltb _ _ c.if-log-gt-LOG_MOST.false) (over c.loop-found.invariant c.read.ensures.0 n h)
 
-pub overflow_add-readings : goal.overflow_add-readings
-overflow_add-readings c = let i = c.loop-stop.invariant in let l = i.less in let w = i.within in let s = c.if-log-gt-LOG_MOST.false in let b = c.readings_of-readings.ensures.1 in omega arith
+pub loop-found-preserved : goal.loop-found-preserved
+loop-found-preserved c =
+    let n : next_of c.read.result ≡ On c.in-Some.found c.in-Some.after = rw (c.in_ok-found.was, c.in-Some.is) in
+    (turn c.loop-found.invariant c.read.ensures.0 n c.read.ensures.1 c.ticks_of-ticks.ensures.0 c.readings_of-readings.ensures.0 c.readings_of-readings.ensures.1 c.if-ticks-gt-TICKS_MOST.false).1
 
-pub loop-stop-smaller : goal.loop-stop-smaller
-loop-stop-smaller c = let g = turn c.loop-stop.invariant c.read.ensures.0 c.in-On.is c.read.ensures.1 c.ticks_of-ticks.ensures.0 c.readings_of-readings.ensures.0 c.readings_of-readings.ensures.1 c.if-ticks-gt-TICKS_MOST.false in let a = g.0 in let w = g.1.within in omega arith
-
-pub loop-stop-preserved : goal.loop-stop-preserved
-loop-stop-preserved c = (turn c.loop-stop.invariant c.read.ensures.0 c.in-On.is c.read.ensures.1 c.ticks_of-ticks.ensures.0 c.readings_of-readings.ensures.0 c.readings_of-readings.ensures.1 c.if-ticks-gt-TICKS_MOST.false).1
+pub returns : goal.returns
+unfolding measure_of
+returns c =
+    let n : next_of c.read.result ≡ Off 0 = rw (c.in_ok-found.was, c.in_default.is) in
+    rw (le-ltb _ _ c.if-log-gt-LOG_MOST.false) (stop c.loop-found.invariant c.read.ensures.0 n)

@@ -4,8 +4,8 @@ use lib.ListN.{length}
 use Rattle.chip_log.proofs.Turn.{Here}
 use Rattle.chip_log.proofs.measure.Given as goal
 
-abbrev pub invariant-loop-stop : goal.invariant-loop-stop
-invariant-loop-stop l = Here l.log l.at l.ticks l.readings
+abbrev pub invariant-loop-found : goal.invariant-loop-found
+invariant-loop-found l = Here l.log l.at l.ticks l.readings
 
-abbrev pub decreases-loop-stop : goal.decreases-loop-stop
-decreases-loop-stop l = length l.log - l.at
+abbrev pub decreases-loop-found : goal.decreases-loop-found
+decreases-loop-found l = length l.log - l.at

@@ -1,26 +1,36 @@
 -- The refusals of the file, then of the destination; then the samples.
-use mathlib.Core.Path.{ap, ◌∙◌}
-use native.Mathlib.Omega.{arith}
-use Rattle.wav.specs.declared.Frames.{Frames}
-use Rattle.wav.proofs.Files.{long, few, unread, no_place, restored}
+use Rattle.std.proofs.Common.{◌≡◌, Err, refl, sym, ◌∙◌, arith, rules}
+use lib.ListN.{length-drop}
+use lib.Seq.{length-take-le}
+use Rattle.refusal.proofs.Numbers.{positive}
+use Rattle.wav.proofs.Files.{long, whole, unread, no_place, restored}
 use Rattle.wav.proofs.read_wav.Goals as goal
 
-pub returns-then-found-ne0 : goal.returns-then-found-ne0
-returns-then-found-ne0 c = let a = c.args in unread a.file.now c.wav_frames-found.ensures a.pcm.now c.if-found-ne0.true
+pub returns-in_err-frames : goal.returns-in_err-frames
+returns-in_err-frames c = let a = c.args in
+    let e : c.from_residual.result ≡ Err c.in_err-frames.field-0.0 = search rules in
+    let p = positive c.in_err-frames.field-0.0 in
+    rw e (unread a.file.now c.in_err-frames.ensures a.pcm.now (λ z. absurd (omega arith)))
 
-pub overflow_mul-found : goal.overflow_mul-found
-overflow_mul-found c = record { fits = let n = few c.args.file.now c.wav_frames-found.ensures in omega arith }
+pub returns-then-pcm-frames : goal.returns-then-pcm-frames
+returns-then-pcm-frames c = let a = c.args in
+    let h = c.if-pcm-frames.true in
+    no_place a.file.now c.in_ok-frames.ensures a.pcm.now refl (λ e. h (omega arith))
 
-pub returns-then-pcm-found : goal.returns-then-pcm-found
-returns-then-pcm-found c = let a = c.args in
-    ap (λ (f : Frames). record { frames = f; pcm = a.pcm.now }) c.refused.ensures ∙ no_place a.file.now c.wav_frames-found.ensures a.pcm.now c.if-found-ne0.false c.if-pcm-found.true
+pub slice_bounds-copy_from_slice-count : goal.slice_bounds-copy_from_slice-count
+slice_bounds-copy_from_slice-count c = long c.args.file.now c.in_ok-frames.ensures refl
 
-pub slice_bounds-copy-count : goal.slice_bounds-copy-count
-slice_bounds-copy-count c = long c.args.file.now c.wav_frames-found.ensures c.if-found-ne0.false
+pub slice_bounds-copy_from_slice-start : goal.slice_bounds-copy_from_slice-start
+slice_bounds-copy_from_slice-start c = long c.args.file.now c.in_ok-frames.ensures refl
 
-pub slice_bounds-copy-start : goal.slice_bounds-copy-start
-slice_bounds-copy-start c = long c.args.file.now c.wav_frames-found.ensures c.if-found-ne0.false
+pub copy_from_slice-requires : goal.copy_from_slice-requires
+copy_from_slice-requires c = let a = c.args in
+    let w = whole a.file.now c.in_ok-frames.ensures refl in
+    let l = length-drop 44 a.file.now in
+    let h = c.if-pcm-frames.false in
+    sym (length-take-le _ _ (omega arith) ∙ omega (arith, w, l, h))
 
 pub returns : goal.returns
 returns c = let a = c.args in
-    restored a.file.now c.wav_frames-found.ensures a.pcm.now c.if-found-ne0.false c.if-pcm-found.false c.copy.ensures
+    let h = c.if-pcm-frames.false in
+    restored a.file.now c.in_ok-frames.ensures a.pcm.now refl (omega arith) c.copy_from_slice.ensures.after

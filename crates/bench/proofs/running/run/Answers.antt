@@ -6,6 +6,6 @@ use Rattle.bench.proofs.running.run.Goals as goal
 
 pub put_out-requires : goal.put_out-requires
 put_out-requires g c =
-    let p = c.run_part-part in let l = c.loop-pcm in
-    let f = fits l.stage.dsp l.stage.at l.stage.left _ _ _ _ p.ensures.0 in
-    (subst (Fits p.result.heard) (sym p.auto.pcm) f, omega (arith, l.invariant.2, l.invariant.3, c.requires))
+    let l = c.loop-part in
+    let f = fits l.stage.dsp l.stage.at l.stage.left _ _ _ _ c.in_ok-part.ensures.0 in
+    (subst (Fits c.in_ok-part.part.heard) (sym c.run_part.auto.pcm) f, omega (arith, l.invariant.2, l.invariant.3, c.requires))

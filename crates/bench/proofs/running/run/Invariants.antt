@@ -3,8 +3,8 @@ use Rattle.std.proofs.Common.{◌≡◌, ◌≤◌, length}
 use Rattle.bench.specs.Turn.{weight}
 use Rattle.bench.proofs.running.run.Given as goal
 
-abbrev pub invariant-loop-pcm : goal.invariant-loop-pcm
-invariant-loop-pcm g l = (length l.ram ≡ length l.initial.ram) × (length l.pcm ≡ 4096) × (l.stage.at ≤ length l.log) × (l.readings ≤ l.stage.at)
+abbrev pub invariant-loop-part : goal.invariant-loop-part
+invariant-loop-part g l = (length l.ram ≡ length l.initial.ram) × (length l.pcm ≡ 4096) × (l.stage.at ≤ length l.log) × (l.readings ≤ l.stage.at)
 
-abbrev pub decreases-loop-pcm : goal.decreases-loop-pcm
-decreases-loop-pcm g l = weight (length l.log) l.stage.at l.stage.left
+abbrev pub decreases-loop-part : goal.decreases-loop-part
+decreases-loop-part g l = weight (length l.log) l.stage.at l.stage.left

@@ -3,7 +3,6 @@ use borrow.Author.Rules.{rules}
 use mathlib.Core.Path.{◌≡◌, ◌∙◌}
 use Prim.Native.Nat.{◌*◌}
 use native.Mathlib.Omega.{arith}
-use lib.ListN.{length-set}
 use mir.Syntax.{w16}
 use mir.Facts.{to_z-of_z}
 use Rattle.numbers.proofs.Range.{landed}
@@ -11,10 +10,7 @@ use Rattle.dsp.proofs.Blocks.{none, two_more, whole}
 use Rattle.dsp.proofs.brr.decode_brr_block.Goals as goal
 
 pub loop-i-init : goal.loop-i-init
-loop-i-init c = (search rules, none _ _ _ _ _ c.requires.1)
-
-pub bounds-samples-i-in-loop-i : goal.bounds-samples-i-in-loop-i
-bounds-samples-i-in-loop-i c = rw length-set (omega (arith, c.loop-i.invariant.1.sized))
+loop-i-init c = (search rules, none _ _ _ _ _ (search rules))
 
 pub loop-i-preserved : goal.loop-i-preserved
 loop-i-preserved c = let l = c.loop-i in

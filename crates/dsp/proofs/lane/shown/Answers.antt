@@ -1,19 +1,10 @@
 -- The callees, with the read-backs removed.
 use native.Mathlib.Nat.{mod-eq_of_lt}
-use native.Mathlib.Omega.{arith}
-use mathlib.Core.Path.{◌∙◌}
-use lib.ListN.{length-set}
 use mir.Syntax.{w8, w16}
 use Rattle.numbers.proofs.Range.{landed}
 use Rattle.dsp.specs.Lane.{put_bytes}
 use Rattle.dsp.proofs.Ticks.{heard-bit}
 use Rattle.dsp.proofs.lane.shown.Goals as goal
-
-pub bounds-bytes-j-2 : goal.bounds-bytes-j-2
-bounds-bytes-j-2 c = rw length-set (omega (arith, c.requires.0, c.requires.2))
-
-pub shape_of-bytes : goal.shape_of-bytes
-shape_of-bytes c = c.put_endx.auto.bytes ∙ simp length-set
 
 pub returns : goal.returns
 unfolding put_bytes
@@ -21,7 +12,7 @@ returns c = let s = c in
     let a = s.args in
     let j = c.joined-out in
     let out = landed w16 {z = j.result} j.type_inv in
-    let eon = rw (mod-eq_of_lt s.requires.2) at c.bit.ensures in
+    let eon = rw (mod-eq_of_lt s.requires.1) at c.bit.ensures in
     let l = landed w8 {z = a.d.left_vol} c.struct_told-1.given.0.1 in
     let r = landed w8 {z = a.d.right_vol} c.struct_told-2-1.given.1.0.1 in
     (rw (c.put_endx.ensures, c.high.ensures, out, j.ensures), rw (c.added.ensures, eon, heard-bit a.c.echo a.c.eon a.j, out, j.ensures, l, r))

@@ -17,23 +17,23 @@ overflow_mul-result c = fits (search (quotes, q_unsigned, q_elem16) depth 20) tt
 pub overflow_add-result : goal.overflow_add-result
 overflow_add-result c = fits (search (quotes, q_unsigned, q_elem16) depth 20) tt
 
-pub overflow_cast-result-in-From : goal.overflow_cast-result-in-From
-overflow_cast-result-in-From c =
-    let small : mag c.in-From.x < 0x8000 = (search rules) in
+pub overflow_cast-result-in-Some : goal.overflow_cast-result-in-Some
+overflow_cast-result-in-Some c =
+    let small : mag c.in-Some.x < 0x8000 = (search rules) in
     let s = c in
-    let x = c.in-From.x in
+    let x = c.in-Some.x in
     let f = s.ranges.base.fits in
     cast_nat {z = machine s.args.base x} (machine_nat s.args.base x s.ranges.base small) (omega arith)
 
-pub returns-in-From : goal.returns-in-From
+pub returns-in-Some : goal.returns-in-Some
 unfolding pitch_of
-returns-in-From c =
-    let small : mag c.in-From.x < 0x8000 = (search rules) in
+returns-in-Some c =
+    let small : mag c.in-Some.x < 0x8000 = (search rules) in
     let s = c in
-    let x = c.in-From.x in
+    let x = c.in-Some.x in
     let f = s.ranges.base.fits in
     let k = machine_nat s.args.base x s.ranges.base small in
-    (rw (c.in-From.is, ← machine_is s.args.base x s.ranges.base small, k.is), omega (arith, nat_le k))
+    (rw (c.in-Some.is, ← machine_is s.args.base x s.ranges.base small, k.is), omega (arith, nat_le k))
 
 pub returns-in_default : goal.returns-in_default
 unfolding pitch_of

@@ -1,34 +1,21 @@
--- By the refusals, in their order; then the log's records.
-use mathlib.Core.Bool.{true}
-use mathlib.Core.Path.{◌≡◌, sym, ◌∙◌}
-use native.Mathlib.Omega.{arith}
-use lib.ListN.{length}
-use borrow.Author.Tests.{eq-eqb}
-use Rattle.chip_log.proofs.Turn.{taken}
+-- The log was measured, and what is lent is of the sizes that it needs.
+use Rattle.std.proofs.Common.{◌≡◌, true, Ok, length, refl, sym, ap, ◌∙◌, rules, arith}
+use Rattle.chip_log.specs.Measure.{measured_as}
+use Rattle.chip_log.proofs.Turn.{Taken, taken}
 use Rattle.dsp.specs.Fit.{fit}
-use Rattle.dsp.specs.Run.{ran, run_measured, run_with}
 use Rattle.dsp.proofs.Fits.{fit_facts}
 use Rattle.dsp.proofs.Playing.{ready}
 use Rattle.dsp.proofs.run.play_log.Goals as goal
 
--- ---- what the tests that let the run on have told
-
 pub is_room-requires : goal.is_room-requires
-is_room-requires c = (taken _ _ c.measure-m.ensures c.if-m-ne0.false).few
+is_room-requires c =
+    let k : c.measure.result ≡ Ok c.in_ok-m.m = search rules in
+    (taken c.args.log.now (measured_as (Ok c.in_ok-m.m)) (ap measured_as (sym k) ∙ c.measure.ensures) refl).few
 
-pub play_all-d-requires : goal.play_all-d-requires
-play_all-d-requires c =
-    let ram_there : length c.args.ram.now ≡ 0x10000 = (omega arith) in
-    let fit_there : fit c.args.start ≡ true = (sym c.is_fit.ensures ∙ c.if-not-is_fit.false) in
-    let r = c.is_room.ensures in
-    (ram_there, fit_facts _ fit_there, ready _ _ _ _ c.measure-m.result (taken _ _ c.measure-m.ensures c.if-m-ne0.false) (◌∙◌ {a = r 1} (sym {b = r 1} r) (c.if-not-is_room.false)))
-
-pub returns : goal.returns
-unfolding run_with run_measured
-returns c =
-    let ram_there : length c.args.ram.now ≡ 0x10000 = (omega arith) in
-    let fit_there : fit c.args.start ≡ true = (sym c.is_fit.ensures ∙ c.if-not-is_fit.false) in
-    let r = c.is_room in
-    let m = c.measure-m.result in
-    rw (eq-eqb _ _ ram_there, fit_there, ← c.measure-m.ensures, eq-eqb _ _ c.if-m-ne0.false, ← r.ensures, c.if-not-is_room.false)
-    (λ i. ran m (c.play_all-d.ensures i))
+pub play_all-requires : goal.play_all-requires
+play_all-requires c =
+    let k : c.measure.result ≡ Ok c.in_ok-m.m = search rules in
+    let t : Taken c.args.log.now (measured_as (Ok c.in_ok-m.m)) = taken c.args.log.now _ (ap measured_as (sym k) ∙ c.measure.ensures) refl in
+    let sized : length c.args.ram.now ≡ 0x10000 = omega arith in
+    let fitting : fit c.args.start ≡ true = sym c.is_fit.ensures ∙ c.if-not-is_fit.false in
+    (sized, fit_facts _ fitting, ready _ _ _ _ (measured_as (Ok c.in_ok-m.m)) t (sym c.is_room.ensures ∙ c.if-not-is_room.false))

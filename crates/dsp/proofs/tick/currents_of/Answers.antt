@@ -1,16 +1,8 @@
--- After n turns the first n current samples are those of the voices.
+-- Each element is that of the voice.
 use borrow.Author.Rules.{rules}
-use mir.Syntax.{w16}
-use Rattle.numbers.proofs.Range.{landed}
+use Rattle.numbers.proofs.Maps.{mapped}
 use Rattle.dsp.specs.Machine.{no_voice}
-use Rattle.dsp.proofs.Arrays.{none_mapped, one_mapped, all_mapped}
 use Rattle.dsp.proofs.tick.currents_of.Goals as goal
 
-pub loop-n-init : goal.loop-n-init
-loop-n-init c = none_mapped (search rules)
-
-pub loop-n-preserved : goal.loop-n-preserved
-loop-n-preserved c = one_mapped no_voice c.loop-n.invariant (search rules) (landed w16 (search rules))
-
 pub returns : goal.returns
-returns c = all_mapped c.loop-n.invariant (search rules)
+returns c = mapped (λ v. v.current_sample) no_voice (search rules) (λ p q x y h. search rules) c.map.ensures.items

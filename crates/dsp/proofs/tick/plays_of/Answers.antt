@@ -1,14 +1,9 @@
--- After n turns the first n plays are those of the voices.
+-- Each element is that of the voice.
 use borrow.Author.Rules.{rules}
+use Rattle.numbers.proofs.Maps.{mapped}
 use Rattle.dsp.specs.Machine.{no_voice}
-use Rattle.dsp.proofs.Arrays.{none_mapped, one_mapped, all_mapped}
+use Rattle.dsp.specs.Inside.{play_of}
 use Rattle.dsp.proofs.tick.plays_of.Goals as goal
 
-pub loop-n-init : goal.loop-n-init
-loop-n-init c = none_mapped (search rules)
-
-pub loop-n-preserved : goal.loop-n-preserved
-loop-n-preserved c = one_mapped no_voice c.loop-n.invariant (search rules) c.play-e.ensures
-
 pub returns : goal.returns
-returns c = all_mapped c.loop-n.invariant (search rules)
+returns c = mapped play_of no_voice (search rules) (λ p q x y h. search rules) c.map.ensures.items

@@ -1,5 +1,4 @@
--- The records passed are equal, and what they handed on is what the next is handed. The measure is the records that are left.
-use Prim.Native.Nat.{◌-◌, ◌≤◌}
+-- The records passed are equal, and what they handed on is what the next is handed.
 use Rattle.dsp.specs.Noise.{Noise}
 use Rattle.replay.specs.declared.records.Carry.{Carry}
 use Rattle.replay.proofs.Fronts.{UpTo}
@@ -10,7 +9,4 @@ abbrev pub noise_in : Carry → Noise
 noise_in c = record { lfsr = c.lfsr; counter = c.counter }
 
 abbrev pub invariant-loop-equal : goal.invariant-loop-equal
-invariant-loop-equal l = (l.equal ≤ l.count) × UpTo l.leaf l.part (noise_in l.initial.handed) l.equal (noise_in l.handed)
-
-abbrev pub decreases-loop-equal : goal.decreases-loop-equal
-decreases-loop-equal l = l.count - l.equal
+invariant-loop-equal l = UpTo l.leaf l.part (noise_in l.initial.handed) l.equal (noise_in l.handed)

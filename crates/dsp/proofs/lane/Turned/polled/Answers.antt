@@ -1,4 +1,5 @@
 -- By KON, and without it by the phase. Under KON the code leaves KOFF out, since the key-on overwrites it.
+use borrow.Author.Rules.{rules}
 use native.Mathlib.Nat.{mod-eq_of_lt}
 use mathlib.Core.Bool.{Bool, true, false, not, ◌&&◌, and-false, or-false}
 use mathlib.Core.List.{List}
@@ -6,7 +7,7 @@ use mathlib.Core.Path.{◌≡◌, refl, sym, ap, ◌∙◌}
 use Prim.Native.Nat.{ℕ}
 use native.Mathlib.Omega.{arith}
 use lib.IntN.{ℤ, pos}
-use lib.ListN.{get_or}
+use lib.ListN.{get_or, length}
 use lib.Seq.{get_or-set_same, set-get_or}
 use Rattle.numbers.specs.Unsigned.{wrapped}
 use Rattle.numbers.proofs.Choice.{chosen}
@@ -43,8 +44,8 @@ returns-then-bit c =
     λ i. moved v (p.0 i) (p.2 i) (pos 0) (p.3 i) (c.begun-envelope.ensures v.adsr i)
     (record { addr = addr i; nibble_idx = p.1 i; prev1 = f.2 i; prev2 = f.3 i; block_end = f.4 i; sample_buffer = samples; buffer_fill = f.1 i })) in
     let a = c.args in
-    let kon = sym (rw (mod-eq_of_lt c.requires.3) at c.bit.ensures) ∙ c.if-bit.true in
-    let here = get_or-set_same a.currents.now a.j (pos 0) (pos 0) (omega (arith, c.requires.0, c.requires.3)) in (
+    let kon = sym (rw (mod-eq_of_lt c.requires.0) at c.bit.ensures) ∙ c.if-bit.true in
+    let here = get_or-set_same a.currents.now a.j (pos 0) (pos 0) (let sized : length a.currents.now ≡ 8 = search rules in omega arith) in (
       λ v samples endx e. rw (kon, on_over_off (bit a.c.koff a.j) a.c.dir_base (restored (with_sample v (get_or a.currents.now a.j (pos 0))) a.self.envelope a.self.play a.self.feed (get_or a.currents.now a.j (pos 0)) samples), here) (ap (sounding false) (anew v (get_or a.currents.now a.j (pos 0)) samples e)),
       rw kon,
       rw kon,
@@ -54,7 +55,7 @@ returns-then-bit c =
 pub returns-then-off : goal.returns-then-off
 unfolding polled_of keyed_on keyed_off
 returns-then-off c = let a = c.args in
-    let kon = sym (rw (mod-eq_of_lt c.requires.3) at c.bit.ensures) ∙ c.if-bit.false in
+    let kon = sym (rw (mod-eq_of_lt c.requires.0) at c.bit.ensures) ∙ c.if-bit.false in
     let off = sym c.off.ensures ∙ c.if-off.true in (
       λ v samples endx e. rw (kon, off, and-false),
       rw kon,
@@ -65,8 +66,8 @@ returns-then-off c = let a = c.args in
 pub returns-else-off : goal.returns-else-off
 unfolding polled_of keyed_on keyed_off
 returns-else-off c = let a = c.args in
-    let kon = sym (rw (mod-eq_of_lt c.requires.3) at c.bit.ensures) ∙ c.if-bit.false in
-    let koff = rw (kon, or-false) at c.requires.4 in
+    let kon = sym (rw (mod-eq_of_lt c.requires.0) at c.bit.ensures) ∙ c.if-bit.false in
+    let koff = rw (kon, or-false) at c.requires.1 in
     let off = sym c.off.ensures ∙ c.if-off.false in
     let p = c.keyed_off-play.ensures in
     let x = get_or a.currents.now a.j (pos 0) in (

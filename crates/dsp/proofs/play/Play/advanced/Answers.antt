@@ -34,9 +34,8 @@ heard-q-requires c =
     elim c.if-due.branch [ then-due w ↦ w.take-is ∙ sym (least_top n r w.if-due.true) | else-due w ↦ let l : n ≤ r = omega (arith, w.if-due.false) in w.take-is ∙ rw (le-leb n r l) ]) in
     let take_le : (c.if-due.take ≤ count) × (c.if-due.take ≤ c.if-fill-eq0.room) = (let h = least-both count c.if-fill-eq0.room in rw take-is (h.0, h.1)) in
     let k = c.args.self.nibble_idx in
-    let p = c.requires in
     let l : room c.args.fill k ≤ 16 - k = chosen (λ (m : ℕ). m ≤ 16 - k) (c.args.fill =? 0) (omega arith) (omega arith) in
-    (p.0, omega (arith, take_le.1, room_is))
+    omega (arith, take_le.1, room_is)
 
 pub overflow_sub-result : goal.overflow_sub-result
 overflow_sub-result c =

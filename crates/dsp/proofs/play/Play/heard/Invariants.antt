@@ -5,6 +5,3 @@ use Rattle.dsp.proofs.play.Play.heard.Given as goal
 
 abbrev pub invariant-loop-i : goal.invariant-loop-i
 invariant-loop-i l = (l.i ≤ l.end) × Hearing l.samples l.n l.self (l.end - l.i) (heard_to l.self l.i l.a l.b l.c l.d)
-
-abbrev pub decreases-loop-i : goal.decreases-loop-i
-decreases-loop-i l = l.end - l.i

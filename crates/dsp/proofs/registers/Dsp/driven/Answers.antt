@@ -6,38 +6,22 @@ use Rattle.dsp.specs.Machine.{Parts, apart, together}
 use Rattle.dsp.specs.Inside.{as_globals, voices_in, parts_in}
 use Rattle.dsp.specs.Ticks.{ticks_of}
 use Rattle.dsp.specs.declared.registers.Dsp.{Dsp}
-use Rattle.dsp.proofs.Made.{histories, dials_wound, voices-again}
+use Rattle.dsp.proofs.Made.{histories, dials_wound, voices-again, stored-samples}
+use Rattle.dsp.proofs.registers.Dsp.driven.Goals.{After-feeds_of-feeds}
 use Rattle.dsp.proofs.registers.Dsp.driven.Goals as goal
 
--- ---- the record apart
+-- what the record was taken apart into
+abbrev in_arrays : After-feeds_of-feeds → Parts
+in_arrays c =
+    parts_in (record { far = c.far-far.result; envelopes = c.envelopes_of-envelopes.result; plays = c.plays_of-plays.result; feeds = c.feeds_of-feeds.result })
+    c.dials_of-dials.result c.taps-taps.result c.currents_of-currents.result c.delays-delays.result c.store_of-store.result c.bytes-bytes.result
 
--- ---- the record made again
-
-pub dials_of-dials-requires : goal.dials_of-dials-requires
-dials_of-dials-requires c = (c.rate_table-rates.ensures, λ j. rw c.lanes-voices.ensures (c.requires.1.voices j))
-
-pub slice_bounds-drive-end : goal.slice_bounds-drive-end
-slice_bounds-drive-end c = sym c.gauss_table-table.type_inv.1.0.1
-
-pub slice_bounds-drive-end-2 : goal.slice_bounds-drive-end-2
-slice_bounds-drive-end-2 c = sym c.rate_table-rates.type_inv.1.0.1
-
-pub slice_bounds-drive-end-6 : goal.slice_bounds-drive-end-6
-slice_bounds-drive-end-6 c = sym c.bytes-bytes.type_inv.1.0.1
-
-pub drive-k-requires : goal.drive-k-requires
-drive-k-requires c =
-    let inArrays : Parts = (parts_in (record { far = c.far-far.result; envelopes = c.envelopes_of-envelopes.result; plays = c.plays_of-plays.result; feeds = c.feeds_of-feeds.result })
-    c.dials_of-dials.result
-    c.taps-taps.result
-    c.currents_of-currents.result
-    c.delays-delays.result
-    c.store_of-store.result
-    c.bytes-bytes.result) in
-    let taken : inArrays ≡ apart c.args.self = (let lanes = c.lanes-voices in
+taken : (c : After-feeds_of-feeds) → in_arrays c ≡ apart c.args.self
+taken c =
+    let lanes = c.lanes-voices in
     let voices =
-    (λ i. voices_in (c.dials_of-dials.ensures i) (c.envelopes_of-envelopes.ensures i) (c.plays_of-plays.ensures i) (c.feeds_of-feeds.ensures i) (c.currents_of-currents.ensures i) c.store_of-store.result)
-    ∙ voices-again lanes.result lanes.type_inv.1.0.1 c.store_of-store.result (histories lanes.result _ lanes.type_inv.1.1) c.store_of-store.ensures
+    (λ i. voices_in (c.dials_of-dials.ensures i) (c.envelopes_of-envelopes.ensures i) (c.plays_of-plays.ensures i) (c.feeds_of-feeds.ensures i) (c.currents_of-currents.ensures i) (c.store_of-store.ensures i))
+    ∙ voices-again lanes.result lanes.type_inv.1.0.1 _ (histories lanes.result _ lanes.type_inv.1.1) (stored-samples lanes.result lanes.type_inv.1.0.1)
     ∙ lanes.ensures in
     λ i.
     record {
@@ -48,45 +32,23 @@ drive-k-requires c =
       left = c.far-far.ensures.1 i;
       right = c.far-far.ensures.2 i;
       globals = c.far-far.ensures.0 i;
-    }) in (
-      c.gauss_table-table.ensures,
-      c.rate_table-rates.ensures,
-      c.currents_of-currents.type_inv.1.0.1,
-      c.delays-delays.type_inv.1.0.1,
-      c.store_of-store.type_inv.1.0.1,
-      c.bytes-bytes.type_inv.1.0.1,
-      c.requires.0,
-      c.requires.2,
-      c.requires.3,
-      c.requires.4,
-      λ j l. rw c.dials_of-dials.ensures (dials_wound c.lanes-voices.result c.lanes-voices.type_inv.1.0.1 j l),
-      subst (λ (p : Parts). Fit (together p)) (sym taken) c.requires.1,
-    )
+    }
+
+pub dials_of-dials-requires : goal.dials_of-dials-requires
+dials_of-dials-requires c = λ j. rw c.lanes-voices.ensures (c.requires.1.voices j)
+
+pub drive-k-requires : goal.drive-k-requires
+drive-k-requires c = (
+  c.requires.0,
+  c.requires.2,
+  c.requires.3,
+  c.requires.4,
+  λ j l. rw c.dials_of-dials.ensures (dials_wound c.lanes-voices.result c.lanes-voices.type_inv.1.0.1 j l),
+  subst (λ (p : Parts). Fit (together p)) (sym (taken (goal.at.drive-k-requires c).After-feeds_of-feeds)) c.requires.1,
+)
 
 pub returns : goal.returns
 returns c =
-    let inArrays : Parts = (parts_in (record { far = c.far-far.result; envelopes = c.envelopes_of-envelopes.result; plays = c.plays_of-plays.result; feeds = c.feeds_of-feeds.result })
-    c.dials_of-dials.result
-    c.taps-taps.result
-    c.currents_of-currents.result
-    c.delays-delays.result
-    c.store_of-store.result
-    c.bytes-bytes.result) in
-    let taken : inArrays ≡ apart c.args.self = (let lanes = c.lanes-voices in
-    let voices =
-    (λ i. voices_in (c.dials_of-dials.ensures i) (c.envelopes_of-envelopes.ensures i) (c.plays_of-plays.ensures i) (c.feeds_of-feeds.ensures i) (c.currents_of-currents.ensures i) c.store_of-store.result)
-    ∙ voices-again lanes.result lanes.type_inv.1.0.1 c.store_of-store.result (histories lanes.result _ lanes.type_inv.1.1) c.store_of-store.ensures
-    ∙ lanes.ensures in
-    λ i.
-    record {
-      registers = c.bytes-bytes.ensures i;
-      voices = voices i;
-      delays = c.delays-delays.ensures i;
-      taps = c.taps-taps.ensures i;
-      left = c.far-far.ensures.1 i;
-      right = c.far-far.ensures.2 i;
-      globals = c.far-far.ensures.0 i;
-    }) in
     let a = c.args in
     let k = c.drive-k.result in
     let d = c.drive-k.ensures.0 in
@@ -105,6 +67,6 @@ returns c =
     })) in (
       (λ i. record { parts = apart (made i); ram = (d 0).ram; pcm = (d 0).pcm; sheet = (d 0).sheet; old = [] })
           ∙ d
-          ∙ (λ i. ticks_of a.work a.n (record { parts = taken i; ram = a.ram.now; pcm = []; sheet = []; old = a.sheet.now })),
+          ∙ (λ i. ticks_of a.work a.n (record { parts = taken (goal.at.returns c).After-feeds_of-feeds i; ram = a.ram.now; pcm = []; sheet = []; old = a.sheet.now })),
       subst (λ (x : Dsp). Fit x) (sym made) c.drive-k.ensures.1,
     )

@@ -3,7 +3,7 @@
 use Rattle.std.proofs.Common.{if◌then◌else◌}
 use borrow.Author.Rules.{rules}
 use mathlib.Core.Bool.{◌||◌}
-use mathlib.Core.List.{List, []}
+use mathlib.Core.List.{[]}
 use mathlib.Core.Path.{◌≡◌, refl, sym, ap, subst, ◌∙◌}
 use Prim.Native.Nat.{ℕ, ◌+◌, ◌-◌, ◌*◌, ◌≤◌, ◌<◌}
 use native.Mathlib.Omega.{arith}
@@ -18,50 +18,47 @@ use Rattle.numbers.proofs.Range.{landed}
 use Rattle.numbers.proofs.Parts.{unwritten, sized, all_written}
 use Rattle.numbers.specs.Bits.{bit}
 use Rattle.sound.specs.Sound.{joined}
-use Rattle.dsp.specs.Machine.{Globals, no_voice}
+use Rattle.dsp.specs.Machine.{Globals}
 use Rattle.dsp.specs.Fit.{FitGlobals, FitVoice}
 use Rattle.dsp.specs.Mix.{scaled_output, master_of}
 use Rattle.dsp.specs.Lane.{Sums, added}
 use Rattle.dsp.specs.Echo.{EchoLane, echo_lane}
 use Rattle.dsp.specs.Tick.{globals_tick, frame_of}
 use Rattle.dsp.specs.Ticks.{Bench, ticks_of}
-use Rattle.dsp.specs.Inside.{as_shared, as_sums, as_globals, no_envelope, voices_in}
-use Rattle.dsp.specs.declared.voice.Voice.{Voice}
+use Rattle.dsp.specs.Inside.{as_shared, as_sums, as_globals, no_envelope}
 use Rattle.dsp.proofs.Fits.{adsr_fit}
 use Rattle.dsp.proofs.Ticks.{globals-kept, bench-fit}
 use Rattle.dsp.proofs.Drives.{round_of, Lanes, lanes_first, lane_shown, bench_at, tick_on}
 use Rattle.dsp.proofs.Apart.{Arrays, arrays, voice_at, voices_from, voices-count, voice-at, parts_from}
 use Rattle.dsp.proofs.Turning.{sample_now, lane_worked, not_polled, is_polled}
 use Rattle.dsp.proofs.Stepping.{asked, either_off, Turn, behind_fit, index_fit, Waits, waited_low, skipped, idled, Advance, advance, rest_low, Taken, taken, taken_past, taken_low, sounded}
-use Rattle.dsp.proofs.tick.Moving.drive.Goals.{After-fed-feeds, Joined-bit, After-advanced-b, Joined-b, Joined-wait-eq0, then-bit, else-bit, then-b, else-b, then-wait-eq0+then-p-off, then-wait-eq0+else-p-off, else-wait-eq0}
+use Rattle.dsp.proofs.tick.Moving.drive.Goals.{Start, Joined-bit, After-advanced-b, Joined-b, Joined-wait-eq0, then-bit, else-bit, then-b, else-b, then-wait-eq0+then-p-off, then-wait-eq0+else-p-off, else-wait-eq0}
 use Rattle.dsp.proofs.tick.Moving.drive.Goals as goal
 
 -- the bench before the first tick
-abbrev first : After-fed-feeds → Bench
+abbrev first : Start → Bench
 first c =
     let a = c.args in
-    bench_at (parts_from a.dials a.taps (arrays c.enveloped-envelopes.result c.played-plays.result c.fed-feeds.result a.currents.now a.store.now) a.delays.now a.bytes.now a.self.far) a.ram.now [] [] a.sheet.now
+    bench_at (parts_from a.dials a.taps (arrays a.self.envelopes a.self.plays a.self.feeds a.currents.now a.store.now) a.delays.now a.bytes.now a.self.far) a.ram.now [] [] a.sheet.now
 
 pub loop-i-init : goal.loop-i-init
 unfolding ticks_of
 loop-i-init c =
     let a = c.args in
     let p = c.requires in
-    let h = p.11 in
-    let e : voices_from a.dials (arrays c.enveloped-envelopes.result c.played-plays.result c.fed-feeds.result a.currents.now a.store.now) ≡ voices_in a.dials a.self.envelopes a.self.plays a.self.feeds a.currents.now a.store.now =
-    (λ k. voices_in a.dials (c.enveloped-envelopes.ensures k) (c.played-plays.ensures k) (c.fed-feeds.ensures k) a.currents.now a.store.now) in (
+    let h = p.5 in (
       search rules,
-      record { envelopes = search rules; plays = search rules; feeds = search rules; currents = p.2; store = p.4 },
+      record { envelopes = search rules; plays = search rules; feeds = search rules; currents = search rules; store = search rules },
       record {
         samples = [];
         rows = [];
         fit =
             record {
-              ram = p.6;
-              round = record { bytes = p.5; count = voices-count _ _; waits = p.3; voices = subst (λ (vs : List Voice). (n : ℕ) → FitVoice (get_or vs n no_voice)) (sym e) h.voices; delays = h.delays };
+              ram = p.0;
+              round = record { bytes = search rules; count = voices-count _ _; waits = search rules; voices = h.voices; delays = h.delays };
               globals = h.globals;
             };
-        is = refl {a = first c};
+        is = refl {a = first (goal.at.loop-i-init c).Start};
         put-out = unwritten _;
         shown = unwritten _;
       },
@@ -98,7 +95,7 @@ pub polled-t-requires : goal.polled-t-requires
 polled-t-requires c =
     let v = c.loop-v.v in
     let t = c.loop-v-test.true in
-    (search rules, search rules, search rules, t, (λ k. asked c.shared-c.result.koff v t c.bit-in-loop-v.ensures k || asked c.shared-c.result.kon v t c.bit-in-loop-v-2.ensures k) ∙ c.if-bit.true)
+    (t, (λ k. asked c.shared-c.result.koff v t c.bit-in-loop-v.ensures k || asked c.shared-c.result.kon v t c.bit-in-loop-v-2.ensures k) ∙ c.if-bit.true)
 
 -- the arrays before a turn, and behind its poll
 abbrev before : Joined-bit → Arrays
@@ -134,10 +131,10 @@ turn c =
     }
 
 pub update_envelope-h-requires : goal.update_envelope-h-requires
-update_envelope-h-requires c = let p = (goal.at.update_envelope-h-requires c).Joined-bit in (c.requires.10 c.loop-v.v c.loop-v-test.true, adsr_fit (voice_at c.args.dials (behind p) c.loop-v.v) (behind_fit (turn p)))
+update_envelope-h-requires c = let p = (goal.at.update_envelope-h-requires c).Joined-bit in (c.requires.4 c.loop-v.v c.loop-v-test.true, adsr_fit (voice_at c.args.dials (behind p) c.loop-v.v) (behind_fit (turn p)))
 
 pub advanced-b-requires : goal.advanced-b-requires
-advanced-b-requires c = (search rules, index_fit (turn (goal.at.advanced-b-requires c).Joined-bit))
+advanced-b-requires c = index_fit (turn (goal.at.advanced-b-requires c).Joined-bit)
 
 -- what the advance gives, and the arrays behind a block change or none
 begun : (c : After-advanced-b) → (let r = c.advanced-b.result in Advance (turn (goal.at.After-advanced-b c).Joined-bit) c.loop-i.ram c.loop-v.acc.prev c.update_envelope-h.result r.play r.due r.rest)
@@ -157,13 +154,13 @@ taken_now c =
           let r = w.changed-t.result in
           let n = w.changed-t.new in
           rw (w.envelopes-is, w.plays-is, w.feeds-is, w.store-is, w.bytes-is)
-          (taken_past q c.loop-i.ram c.loop-v.acc.prev c.update_envelope-h.result b r.envelope r.play r.feed n.samples n.bytes w.if-b.true w.changed-t.auto.samples w.changed-t.ensures)
+          (taken_past q c.loop-i.ram c.loop-v.acc.prev c.update_envelope-h.result b r.envelope r.play r.feed n.samples n.bytes w.if-b.true w.changed-t.ensures)
       | else-b w ↦ rw (w.envelopes-is, w.plays-is, w.feeds-is, w.store-is, w.bytes-is) (taken q c.loop-i.ram c.loop-v.acc.prev c.update_envelope-h.result b w.if-b.false)
     ]
 
 pub changed-t-requires : goal.changed-t-requires
 changed-t-requires c =
-    (search rules, search rules, search rules, search rules, rest_low (turn (goal.at.changed-t-requires c).Joined-bit) c.loop-i.ram c.loop-v.acc.prev c.update_envelope-h.result (begun (goal.at.changed-t-requires c).After-advanced-b))
+    (search rules, search rules, rest_low (turn (goal.at.changed-t-requires c).Joined-bit) c.loop-i.ram c.loop-v.acc.prev c.update_envelope-h.result (begun (goal.at.changed-t-requires c).After-advanced-b))
 
 pub overflow_cast-bytes : goal.overflow_cast-bytes
 overflow_cast-bytes c =
@@ -187,7 +184,7 @@ step c =
             | then-b u ↦
                 let r = u.changed-t.result in
                 let n = u.changed-t.new in
-                rw (u.envelopes-is, u.plays-is, u.feeds-is, u.store-is, u.bytes-is) (taken_past q ram prev h b r.envelope r.play r.feed n.samples n.bytes u.if-b.true u.changed-t.auto.samples u.changed-t.ensures)
+                rw (u.envelopes-is, u.plays-is, u.feeds-is, u.store-is, u.bytes-is) (taken_past q ram prev h b r.envelope r.play r.feed n.samples n.bytes u.if-b.true u.changed-t.ensures)
             | else-b u ↦ rw (u.envelopes-is, u.plays-is, u.feeds-is, u.store-is, u.bytes-is) (taken q ram prev h b u.if-b.false)
           ] in
           rw (w.envelopes-is, w.plays-is, w.feeds-is, w.currents-is, w.store-is, w.delays-is, w.bytes-is)
@@ -249,7 +246,7 @@ loop-i-preserved c =
     let h = c.shared-c.ensures s.bytes refl refl (ap (λ (g : Globals). g.noise) c.ticked-f.ensures.0) in (
       search rules,
       l.invariant.1,
-      tick_on w _ _ (first (goal.at.loop-i-preserved c).After-fed-feeds) s.i s.pcm s.sheet _ s.ram _ sh l.sheet voices l.delays l.bytes (as_sums l.acc) a (a + 4) o (o + 4) _ _ s.invariant.2 c.ticked-f.ensures.0 h z refl refl lent x refl refl (y.1 ∙ ap (λ (e : EchoLane). frame_of (master_of e.echo.globals (as_sums l.acc).dry)) (sym y.0)),
+      tick_on w _ _ (first (goal.at.loop-i-preserved c).Start) s.i s.pcm s.sheet _ s.ram _ sh l.sheet voices l.delays l.bytes (as_sums l.acc) a (a + 4) o (o + 4) _ _ s.invariant.2 c.ticked-f.ensures.0 h z refl refl lent x refl refl (y.1 ∙ ap (λ (e : EchoLane). frame_of (master_of e.echo.globals (as_sums l.acc).dry)) (sym y.0)),
     )
 
 pub returns : goal.returns
@@ -261,9 +258,9 @@ returns c =
     let pcm : l.i * 4 ≡ length a.pcm.now = omega arith in
     let sheet : l.i * 36 ≡ length a.sheet.now = omega arith in
     let parts = parts_from a.dials a.taps (arrays l.envelopes l.plays l.feeds l.currents l.store) l.delays l.bytes l.f in
-    let is : bench_at parts l.ram l.pcm l.sheet [] ≡ ticks_of a.work l.i (first (goal.at.returns c).After-fed-feeds) =
-    subst (λ (b : Bench). b ≡ ticks_of a.work l.i (first (goal.at.returns c).After-fed-feeds)) (λ k. bench_at parts l.ram (sym (all_written d.put-out pcm) k) (sym (all_written d.shown sheet) k) (drop_of_length-le a.sheet.now {i = l.i * 36} (omega arith) k)) d.is in (
-      is ∙ (λ k. ticks_of a.work (n k) (bench_at (parts_from a.dials a.taps (arrays (c.enveloped-envelopes.ensures k) (c.played-plays.ensures k) (c.fed-feeds.ensures k) a.currents.now a.store.now) a.delays.now a.bytes.now a.self.far) a.ram.now [] [] a.sheet.now)),
+    let is : bench_at parts l.ram l.pcm l.sheet [] ≡ ticks_of a.work l.i (first (goal.at.returns c).Start) =
+    subst (λ (b : Bench). b ≡ ticks_of a.work l.i (first (goal.at.returns c).Start)) (λ k. bench_at parts l.ram (sym (all_written d.put-out pcm) k) (sym (all_written d.shown sheet) k) (drop_of_length-le a.sheet.now {i = l.i * 36} (omega arith) k)) d.is in (
+      is ∙ (λ k. ticks_of a.work (n k) (bench_at (parts_from a.dials a.taps (arrays a.self.envelopes a.self.plays a.self.feeds a.currents.now a.store.now) a.delays.now a.bytes.now a.self.far) a.ram.now [] [] a.sheet.now)),
       bench-fit _ d.fit,
       l.invariant.1.envelopes,
       l.invariant.1.plays,

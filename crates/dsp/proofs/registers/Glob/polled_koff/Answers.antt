@@ -1,8 +1,0 @@
--- By the phase of the poll.
-use Rattle.dsp.proofs.registers.Glob.polled_koff.Goals as goal
-
-pub returns-then-self : goal.returns-then-self
-returns-then-self c = rw c.if-self.true
-
-pub returns-else-self : goal.returns-else-self
-returns-else-self c = rw c.if-self.false
