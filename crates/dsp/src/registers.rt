@@ -203,10 +203,11 @@ impl Dsp {
     pub fn is_fit(self) -> bool
         ensures { result ≡ fit self }
     {
-        let numbers = self.glob().is_fit();
-        let voices = self.voices.iter().all(|v| v.is_fit());
-        let delays = self.kon_delay.iter().all(|delay| *delay <= 5);
-        numbers & voices & delays
+        let mut ok = self.glob().is_fit();
+        for n in 0..8 {
+            ok = ok & self.voices[n].is_fit() & (self.kon_delay[n] <= 5);
+        }
+        ok
     }
 
     pub(crate) fn with_glob(mut self, g: Glob) -> Self

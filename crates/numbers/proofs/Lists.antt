@@ -1,5 +1,6 @@
 -- Lists by index: a list that is mapped, tested, or without its first element.
 use Rattle.std.proofs.Common.{◌≡◌, ℕ, zero, suc, ◌<◌, ◌≤◌, Bool, true, false, ◌&&◌, List, [], ◌∷◌, map, length, get_or, take, drop, refl, arith, take_all, take-suc}
+use mathlib.Core.Bool.{and-true, and_assoc}
 use Rattle.numbers.specs.Listed.{listed, all}
 
 -- two lists of one length, each mapped by f: what f keeps of two elements
@@ -29,6 +30,13 @@ module _ {A : Type 0} (t : A → Bool) (d : A) where
   unfolding all
   all_holds [] h = refl
   all_holds (x ∷ xs) h = rw (h 0 (omega arith)) (all_holds xs (λ n l. h (suc n) (omega arith)))
+
+  -- one element more
+  pub all_more : (xs : List A) (n : ℕ) → n < length xs → all t (take (suc n) xs) ≡ (all t (take n xs) && t (get_or xs n d))
+  unfolding all
+  all_more [] n l = absurd (omega arith)
+  all_more (x ∷ xs) zero l = and-true (t x)
+  all_more (x ∷ xs) (suc n) l = rw (all_more xs n (omega arith), and_assoc)
 
 -- ---- a list as what stands in it
 

@@ -101,10 +101,13 @@ pub fn min(a: u16, b: u16) -> u16
     a.min(b)
 }
 
-// As many bytes as both have.
+// As many bytes as both have. Byte by byte: the library's own copy allows for slices that overlap, and asks C for `memmove`.
+#[tactic(auto, using(crate::proofs::Parts::unwritten, crate::proofs::Parts::stored, crate::proofs::Parts::copied_all, crate::proofs::Parts::copied_full))]
 pub fn copy(from: &[u8], to: &mut [u8])
     ensures { to.new ≡ copied from.now to.old }
 {
     let n = from.len().min(to.len());
-    to[..n].copy_from_slice(&from[..n]);
+    for i in 0..n {
+        to[i] = from[i];
+    }
 }

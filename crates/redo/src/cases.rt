@@ -5,7 +5,7 @@ use dsp::Dsp;
 use report::cases::{IMAGES, image, stops, stored_log};
 use report::input::read_full;
 use report::lines::{numbered, say};
-use report::runs::{ran, run_whole};
+use report::runs::run_whole;
 use std::io::Read;
 use std::rt::Files;
 
@@ -90,5 +90,8 @@ fn run_log(
 ) -> Dsp {
     let mut ram = [0u8; 65537];
     let n = image(rt, number, &mut ram);
-    ran(run_whole(rt, told, start, log, &mut ram[..n]).answer).dsp
+    match run_whole(rt, told, start, log, &mut ram[..n]).answer {
+        Ok(dsp) => dsp,
+        Err(e) => e.given,
+    }
 }

@@ -209,5 +209,14 @@ fn tell_reworked(out: &impl Print, w: Reworked, ram: &[u8], new: &[u8], lent: &L
         }),
         Err(refusal) => Err(refusal.of(w.dsp)),
     };
-    tell(out, answer, new, ram, lent.pcm, lent.sheet, lent.readings);
+    tell(
+        out,
+        answer.err().map(|e| e.refusal),
+        ran(answer),
+        new,
+        ram,
+        lent.pcm,
+        lent.sheet,
+        lent.readings,
+    );
 }

@@ -8,7 +8,6 @@ use Rattle.dsp.specs.declared.registers.Dsp.{Dsp}
 use Rattle.chip_log.specs.Measure.{measure_of}
 use Rattle.dsp.specs.Run.{Outcome}
 use Rattle.rework.specs.Rework.{Left, rework_of}
-use Rattle.rework.specs.declared.reworking.Reworked.{Reworked}
 use Rattle.report.specs.Runs.{room_in, run_cut, registers_in}
 use Rattle.report.specs.declared.runs.Room.{Room}
 use Rattle.remark.specs.Marking.{same, changed, verdict_of}
@@ -54,10 +53,10 @@ pub record Both : Type 0 where
   pub before : List ℕ
   pub after : List ℕ
 
--- an answer, with what it leaves in the lent slices, in these words
-abbrev pub both : Result Reworked Unworked → List ℕ → List ℕ → List ℕ → List ℕ → List ℕ → Both
+-- an answer, the set and its number or why there is none, with what it leaves in the lent slices, in these words
+abbrev pub both : Result (ℕ × ℕ) Unworked → List ℕ → List ℕ → List ℕ → List ℕ → List ℕ → Both
 both (Ok w) own pcm sheet before after =
-    record { refusal = 0; of_old = false; members = w.members; count = w.count; own = own; pcm = pcm; sheet = sheet; before = before; after = after }
+    record { refusal = 0; of_old = false; members = w.0; count = w.1; own = own; pcm = pcm; sheet = sheet; before = before; after = after }
 both (Err (Old r)) own pcm sheet before after =
     record { refusal = number r; of_old = true; members = 0; count = 0; own = own; pcm = pcm; sheet = sheet; before = before; after = after }
 both (Err (New r)) own pcm sheet before after =

@@ -27,7 +27,8 @@ pub struct Judged {
 
 #[derive(Clone, Copy)]
 pub struct Answer {
-    pub worked: Result<Reworked, Unworked>,
+    // The set of voices that were worked, and their number.
+    pub worked: Result<(u8, u32), Unworked>,
     pub judged: Judged,
 }
 
@@ -71,7 +72,7 @@ fn work(
     sheet: &mut [u8],
     before: &mut [u8],
     after: &mut [u8],
-) -> Result<Reworked, Unworked>
+) -> Result<(u8, u32), Unworked>
     ensures { both result own.new pcm.new sheet.new before.new after.new ≡ both_of named ram.now own.old old.now new.now pcm.old sheet.old before.old after.old }
 {
     let end = match run_cut(None, own, old, pcm, sheet, before) {
@@ -79,7 +80,7 @@ fn work(
         Err(e) => return Err(Unworked::Old(e.refusal)),
     };
     match rework_cut(named, end, ram, old, new, pcm, sheet, after) {
-        Ok(w) => Ok(w),
+        Ok(w) => Ok((w.members, w.count)),
         Err(e) => Err(Unworked::New(e.refusal)),
     }
 }

@@ -74,8 +74,8 @@ fn tell(
     numbers: &[u64],
 ) -> bool {
     match answer.worked {
-        Ok(w) => {
-            words::sets(out, named, w.members, w.count)
+        Ok((members, count)) => {
+            words::sets(out, named, members, count)
                 && tell_judged(out, answer.judged, registers, before, after, numbers)
         }
         Err(why) => words::refused(out, why),

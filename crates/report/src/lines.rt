@@ -4,7 +4,6 @@ ghost use Rattle.std.specs.Prelude.{◌≡◌, ◌<◌};
 ghost use Rattle.report.specs.Hex.{capital, in_hex};
 
 use dsp::Dsp;
-use refusal::Refusal;
 
 pub fn say(out: &impl Print, words: &[u8]) -> bool {
     out.write_all(words).is_ok()
@@ -58,8 +57,9 @@ pub fn end(out: &impl Print, ticks: u64, readings: u64) -> bool {
     say(out, b"END ") && number(out, ticks) && numbered(out, b" ", readings)
 }
 
-pub fn refused(out: &impl Print, refusal: Refusal) -> bool {
-    numbered(out, b"REFUSED ", u64::from(refusal.number()))
+// A refusal, or any number in its place.
+pub fn refused(out: &impl Print, refusal: impl Into<u8>) -> bool {
+    numbered(out, b"REFUSED ", u64::from(refusal.into()))
 }
 
 pub fn registers(out: &impl Print, dsp: Dsp) -> bool {

@@ -3,7 +3,7 @@ ghost use Rattle.std.specs.Prelude.{◌≡◌, ◌<◌, ◌≤◌, length};
 ghost use Rattle.std.specs.Counts.{IsPrefixLen};
 ghost use Rattle.numbers.specs.Bytes.{copied};
 ghost use Rattle.numbers.specs.Unsigned.{least as least_of};
-ghost use Rattle.refusal.specs.Refusal.{told as told_by};
+ghost use Rattle.refusal.specs.Refusal.{told as told_by, handed};
 ghost use Rattle.chip_log.specs.Measure.{measure_of};
 ghost use Rattle.dsp.specs.Run.{outcome, run_of};
 ghost use Rattle.report.specs.Digest.{digest_of, left_by};
@@ -63,10 +63,10 @@ impl Room {
     }
 }
 
-// The answer of a run, and what it left.
+// The record that a run gives back, or its refusal; and what the run left.
 #[derive(Clone, Copy)]
 pub struct Whole {
-    pub answer: Result<Ran, Refused<Dsp>>,
+    pub answer: Result<Dsp, Refused<Dsp>>,
     pub left: Left,
 }
 
@@ -81,6 +81,17 @@ pub fn ran(answer: Result<Ran, Refused<Dsp>>) -> Ran
             ticks: 0,
             readings: 0,
         },
+    }
+}
+
+// The record of an answer, without its counts.
+fn record_of(answer: Result<Ran, Refused<Dsp>>) -> Result<Dsp, Refused<Dsp>>
+    ensures told { told_by result ≡ told_by answer }
+    ensures record { handed result ≡ (ran_by answer).dsp }
+{
+    match answer {
+        Ok(r) => Ok(r.dsp),
+        Err(e) => Err(e),
     }
 }
 
@@ -105,7 +116,7 @@ pub fn run_whole(
     log: &[u8],
     ram: &mut [u8],
 ) -> Whole
-    ensures { ◌≡◌ {A = Through} (record { refusal = told_by result.answer; dsp = (ran_by result.answer).dsp; left = result.left; ram = ram.new }) (whole_of told (start_from start) ram.old log.now) }
+    ensures { ◌≡◌ {A = Through} (record { refusal = told_by result.answer; dsp = handed result.answer; left = result.left; ram = ram.new }) (whole_of told (start_from start) ram.old log.now) }
 {
     let mut pcm = [0; 128000];
     let mut sheet = [0; 1152000];
@@ -133,15 +144,28 @@ fn run_told(
     sheet: &mut [u8; 1152000],
     readings: &mut [u8; 20000],
 ) -> Whole
-    ensures { ◌≡◌ {A = Through} (record { refusal = told_by result.answer; dsp = (ran_by result.answer).dsp; left = result.left; ram = ram.new }) (through told (run_cut (start_from start) ram.old log.now pcm.old sheet.old readings.old)) }
+    ensures { ◌≡◌ {A = Through} (record { refusal = told_by result.answer; dsp = handed result.answer; left = result.left; ram = ram.new }) (through told (run_cut (start_from start) ram.old log.now pcm.old sheet.old readings.old)) }
 {
     let answer = run_cut(start, ram, log, pcm, sheet, readings);
+    let r = ran(answer);
     let left = if told {
-        tell(out, answer, log, ram, pcm, sheet, readings)
+        tell(
+            out,
+            answer.err().map(|e| e.refusal),
+            r,
+            log,
+            ram,
+            pcm,
+            sheet,
+            readings,
+        )
     } else {
-        Left::by(ran(answer).dsp, ram, EMPTY, EMPTY)
+        Left::by(r.dsp, ram, EMPTY, EMPTY)
     };
-    Whole { answer, left }
+    Whole {
+        answer: record_of(answer),
+        left,
+    }
 }
 
 // Lends what the log needs; were there less, the run would refuse by 10.
@@ -184,24 +208,25 @@ pub fn run_on(
     }
 }
 
-// Of what was lent, what a run with such an answer was lent and has filled.
+// Of what was lent, what a run of so many ticks and readings was lent and has filled; where it was refused, the refusal is told.
 #[tactic(auto, unfolding(crate::specs::Runs::left_of))]
 pub fn tell(
     out: &impl Print,
-    answer: Result<Ran, Refused<Dsp>>,
+    refusal: Option<impl Into<u8>>,
+    r: Ran,
     log: &[u8],
     ram: &[u8],
     pcm: &[u8],
     sheet: &[u8],
     readings: &[u8],
 ) -> Left
-    ensures { result ≡ left_of (ran_by answer).dsp (ran_by answer).ticks (ran_by answer).readings ram.now pcm.now sheet.now readings.now }
+    ensures { result ≡ left_of r.dsp r.ticks r.readings ram.now pcm.now sheet.now readings.now }
 {
-    let r = ran(answer);
     let n = room_for(r.ticks, r.readings).within(pcm.len(), sheet.len(), readings.len());
     tell_cut(
         out,
-        answer,
+        refusal,
+        r,
         log,
         ram,
         &pcm[..n.pcm],
@@ -212,22 +237,23 @@ pub fn tell(
 
 fn tell_cut(
     out: &impl Print,
-    answer: Result<Ran, Refused<Dsp>>,
+    refusal: Option<impl Into<u8>>,
+    r: Ran,
     log: &[u8],
     ram: &[u8],
     pcm: &[u8],
     sheet: &[u8],
     readings: &[u8],
 ) -> Left
-    ensures { result ≡ left_by (ran_by answer).dsp ram.now (digest_of pcm.now) (digest_of readings.now) }
+    ensures { result ≡ left_by r.dsp ram.now (digest_of pcm.now) (digest_of readings.now) }
 {
     let samples = with_bytes(EMPTY, pcm);
-    let left = Left::by(ran(answer).dsp, ram, samples, with_bytes(EMPTY, readings));
-    match answer {
-        Ok(r) => tell_lines(out, r, log, left, sheet, readings),
-        Err(e) => {
-            lines::refused(out, e.refusal);
+    let left = Left::by(r.dsp, ram, samples, with_bytes(EMPTY, readings));
+    match refusal {
+        Some(number) => {
+            lines::refused(out, number);
         }
+        None => tell_lines(out, r, log, left, sheet, readings),
     }
     left
 }

@@ -64,13 +64,12 @@ fn checked(
     Ok(w.set)
 }
 
-// A copy of RAM for a run to work over.
-fn own_ram(ram: &[u8]) -> [u8; RAM_SIZE]
-    ensures { length ram.now ≡ 0x10000 → result ≡ ram.now }
+// A copy of RAM for a run to work over. It is written where the caller has it: an array that is handed back is copied once more, on a
+// stack of its own size.
+fn own_ram(ram: &[u8], own: &mut [u8; RAM_SIZE])
+    ensures { length ram.now ≡ 0x10000 → own.new ≡ ram.now }
 {
-    let mut own = [0; RAM_SIZE];
-    copy(ram, &mut own);
-    own
+    copy(ram, own);
 }
 
 // Works A's voices alone, from the first tick, over the old sheet and end record. RAM is read only, so that the run has a copy.
@@ -93,7 +92,8 @@ pub fn rework(
         Ok(members) => members,
         Err(refusal) => return Err(refusal.of(start)),
     };
-    let mut own = own_ram(ram);
+    let mut own = [0; RAM_SIZE];
+    own_ram(ram, &mut own);
     let work = Work {
         voices: members,
         echo: false,
@@ -124,7 +124,8 @@ pub fn rework_new(
     if let Err(refusal) = checked(named, start, start, ram, old_log, new_log) {
         return Err(refusal.of(start));
     }
-    let mut own = own_ram(ram);
+    let mut own = [0; RAM_SIZE];
+    own_ram(ram, &mut own);
     let first = run_new(&mut own, old_log, pcm, sheet, readings)?;
     rework(
         named, start, first.dsp, ram, old_log, new_log, pcm, sheet, readings,

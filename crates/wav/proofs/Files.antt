@@ -8,10 +8,11 @@ use lib.Dec.{lit≤}
 use lib.ListN.{length, take, drop, length-append, length-drop, take-append-drop}
 use lib.Seq.{length-take-le, take_all}
 use borrow.Author.Tests.{eqb-true, leb-true, eq-eqb, ne_eqb}
-use borrow.Rule.Slice.PartMut.{put_mid}
+use borrow.Rule.Slice.PartMut.{put_mid, mid_of}
+use Rattle.numbers.specs.Bytes.{copied}
 use Rattle.numbers.specs.Choice.{◌≤?◌, ◌=?◌}
 use Rattle.numbers.proofs.Choice.{chosen}
-use Rattle.numbers.proofs.Parts.{Written, sized, part-put, all_written}
+use Rattle.numbers.proofs.Parts.{Written, sized, part-put, all_written, copied_whole, mid_length}
 use Rattle.wav.specs.Wav.{header_of, frames_in, is_sound, header_size, wav_of, same_bytes, samples_in, is_wav, data_size, filed_of, refused_by, frames_of, Restored, read_of}
 use Rattle.wav.specs.Wav.{Frames}
 use Rattle.wav.proofs.Rows.{both, same-is, same-before}
@@ -76,18 +77,21 @@ module _ (pcm file : List ℕ) where
 
   -- the header is copied to the front, then the samples to what is behind it
   pub written : is_sound (length pcm) ≡ true → length file ≡ header_size + length pcm
-      → {header front back : List ℕ} → header ≡ header_of (frames_in (length pcm)) → front ≡ header
+      → {header front back : List ℕ} → header ≡ header_of (frames_in (length pcm)) → front ≡ copied header (take header_size file)
       → let new = front ++ drop header_size file in let rest = length new - header_size in
-      back ≡ pcm → filed_of pcm file ≡ record { refusal = 0; file = put_mid header_size rest new back }
+      back ≡ copied pcm (mid_of header_size rest new) → filed_of pcm file ≡ record { refusal = 0; file = put_mid header_size rest new back }
   unfolding wav_of
   written e h {header} {front} {back} he fe be =
       let k = frames_in (length pcm) in
       let new = front ++ drop header_size file in
-      let f : front ≡ header_of k = fe ∙ he in
+      let f : front ≡ header_of k =
+      fe ∙ ap (λ (l : List ℕ). copied l (take header_size file)) he
+      ∙ copied_whole (header_of k) (take header_size file) (length-take-le header_size file (omega arith) ∙ sym (header_length k)) in
       let w : Written file new header_size (header_of k) = record { is = ap (λ (l : List ℕ). l ++ drop header_size file) f; long = header_length k } in
       let l = sized w (omega arith) in
       let m : length new - header_size ≡ length pcm = omega arith in
-      let p = part-put w (length pcm) pcm (λ i. put_mid header_size (m i) new (be i)) refl in
+      let b : back ≡ pcm = be ∙ copied_whole pcm (mid_of header_size (length new - header_size) new) (mid_length header_size (length new - header_size) new (omega arith) ∙ m) in
+      let p = part-put w (length pcm) pcm (λ i. put_mid header_size (m i) new (b i)) refl in
       wrote e h ∙ ap (λ (x : List ℕ). record { refusal = 0; file = x }) (sym (all_written p (sym h)))
 
 -- ---- the reader
@@ -133,12 +137,13 @@ module _ (file : List ℕ) {found : Frames} (is : found ≡ frames_of file) wher
 
     -- what is behind the header is copied
     pub restored : found.refusal ≡ 0 → length pcm ≡ data_size found.frames → {back : List ℕ}
-        → back ≡ take (length file - header_size) (samples_in file) → record { frames = found; pcm = back } ≡ read_of file pcm
+        → back ≡ copied (take (length file - header_size) (samples_in file)) pcm → record { frames = found; pcm = back } ≡ read_of file pcm
     unfolding read_of
     restored z h e =
         let l = length-drop header_size file in
         let t : take (length file - header_size) (samples_in file) ≡ samples_in file = take_all (length file - header_size) (samples_in file) (omega arith) in
-        rw (← is, eq-eqb _ _ z, eq-eqb _ _ h) (ap (λ (x : List ℕ). record { frames = found; pcm = x }) (e ∙ t))
+        let b = e ∙ ap (λ (x : List ℕ). copied x pcm) t ∙ copied_whole (samples_in file) pcm (h ∙ whole z) in
+        rw (← is, eq-eqb _ _ z, eq-eqb _ _ h) (ap (λ (x : List ℕ). record { frames = found; pcm = x }) b)
 
 abbrev Few : Restored → Type 0
 Few left = left.frames.frames ≤ 32000

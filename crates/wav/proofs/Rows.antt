@@ -1,13 +1,14 @@
--- The test `same_bytes`: by the library, behind a common end, and that it tells equal rows from others.
-use mathlib.Core.Bool.{Bool, true, false, not, ◌&&◌}
+-- The test `same_bytes`: byte by byte, behind a common end, and that it tells equal rows from others.
+use mathlib.Core.Bool.{Bool, true, false, ◌&&◌}
 use mathlib.Core.List.{List, [], ◌∷◌, ◌++◌}
 use mathlib.Core.Path.{◌≡◌, refl, ap}
-use Prim.Native.Nat.{ℕ}
+use Prim.Native.Nat.{ℕ, ◌+◌, ◌<◌}
 use native.Mathlib.Nat.{suc_inj}
+use native.Mathlib.Numerals.{add-one}
 use native.Mathlib.Omega.{arith}
 use lib.Dec.{eqb}
-use lib.ListN.{length}
-use lib.Pointwise.{pointwise}
+use lib.ListN.{length, drop, get_or}
+use lib.Seq.{drop-cons}
 use borrow.Author.Tests.{eq-eqb, eqb-true}
 use Rattle.wav.specs.Wav.{same_bytes}
 
@@ -16,22 +17,11 @@ pub both : (a b : Bool) → (a && b) ≡ true → (a ≡ true) × (b ≡ true)
 both true b e = (refl, e)
 both false b e = let z : ◌≡◌ {A = ℕ} 0 1 = cc in absurd (omega arith)
 
--- the library's comparison of two slices is the same test
-pub same_pointwise : (a b : List ℕ) → pointwise eqb a b ≡ same_bytes a b
+-- from place i on: the bytes there, then those behind them
+pub same_from : (a b : List ℕ) (i : ℕ) → i < length a → i < length b
+    → same_bytes (drop i a) (drop i b) ≡ (eqb (get_or a i 0) (get_or b i 0) && same_bytes (drop (i + 1) a) (drop (i + 1) b))
 unfolding same_bytes
-same_pointwise [] [] = refl
-same_pointwise [] (y ∷ ys) = refl
-same_pointwise (x ∷ xs) [] = refl
-same_pointwise (x ∷ xs) (y ∷ ys) = ap (λ (s : Bool). eqb x y && s) (same_pointwise xs ys)
-
--- what a failed or a passed `!=` says of the test
-pub unequal : (t : Bool) → true ≡ not t → t ≡ false
-unequal true e = cc
-unequal false e = refl
-
-pub equal : (t : Bool) → false ≡ not t → t ≡ true
-equal true e = refl
-equal false e = cc
+same_from a b i h k = rw (add-one i, drop-cons a i 0, drop-cons b i 0)
 
 pub same_self : (a : List ℕ) → same_bytes a a ≡ true
 unfolding same_bytes

@@ -4,8 +4,9 @@
 ghost use Rattle.std.specs.Prelude.{◌≡◌, ◌-◌, ◌≤◌, length};
 ghost use borrow.Rule.Slice.PartMut.{put_mid};
 ghost use Rattle.refusal.specs.Refusal.{code};
-ghost use Rattle.wav.specs.Wav.{header_of, is_sound, Filed, filed_of, frames_as, frames_of, Restored, read_of};
+ghost use Rattle.wav.specs.Wav.{in_bytes, header_of, is_sound, same_bytes, Filed, filed_of, frames_as, frames_of, Restored, read_of};
 
+use numbers::copy;
 use refusal::Refusal;
 
 const HEADER_SIZE: usize = 44;
@@ -32,6 +33,14 @@ fn put(header: &mut [u8; HEADER_SIZE], at: usize, bytes: &[u8])
     header[at..at + bytes.len()].copy_from_slice(bytes);
 }
 
+// A number in four bytes, low byte first.
+#[tactic(auto, using(crate::proofs::Numbers::four_bytes))]
+fn in_four(x: u32) -> [u8; 4]
+    ensures { result ≡ in_bytes 4 x }
+{
+    x.to_le_bytes()
+}
+
 // "Every header field follows from the frame count."
 fn header_of(frames: u32) -> [u8; HEADER_SIZE]
     requires { frames ≤ 32000 }
@@ -41,22 +50,18 @@ fn header_of(frames: u32) -> [u8; HEADER_SIZE]
     let data_size = frames * bytes_a_frame;
     let mut header = [0; HEADER_SIZE];
     put(&mut header, 0, b"RIFF");
-    put(&mut header, 4, &(36 + data_size).to_le_bytes());
+    put(&mut header, 4, &in_four(36 + data_size));
     put(&mut header, 8, b"WAVE");
     put(&mut header, 12, b"fmt ");
-    put(&mut header, 16, &FORMAT_SIZE.to_le_bytes());
+    put(&mut header, 16, &in_four(FORMAT_SIZE));
     put(&mut header, 20, &PCM.to_le_bytes());
     put(&mut header, 22, &CHANNELS.to_le_bytes());
-    put(&mut header, 24, &FRAMES_A_SECOND.to_le_bytes());
-    put(
-        &mut header,
-        28,
-        &(FRAMES_A_SECOND * bytes_a_frame).to_le_bytes(),
-    );
+    put(&mut header, 24, &in_four(FRAMES_A_SECOND));
+    put(&mut header, 28, &in_four(FRAMES_A_SECOND * bytes_a_frame));
     put(&mut header, 32, &BYTES_A_FRAME.to_le_bytes());
     put(&mut header, 34, &BITS_A_SAMPLE.to_le_bytes());
     put(&mut header, 36, b"data");
-    put(&mut header, 40, &data_size.to_le_bytes());
+    put(&mut header, 40, &in_four(data_size));
     header
 }
 
@@ -79,9 +84,22 @@ pub fn write_wav(pcm: &[u8], file: &mut [u8]) -> Result<(), Refusal>
         return Err(Refusal::WrongRoom);
     }
     let header = header_of((size / 4) as u32);
-    file[..HEADER_SIZE].copy_from_slice(&header);
-    file[HEADER_SIZE..].copy_from_slice(pcm);
+    copy(&header, &mut file[..HEADER_SIZE]);
+    copy(pcm, &mut file[HEADER_SIZE..]);
     Ok(())
+}
+
+// Whether a file begins with this header.
+fn same(front: &[u8], header: &[u8; HEADER_SIZE]) -> bool
+    requires { length front.now ≡ 44 }
+    ensures { result ≡ same_bytes front.now header.now }
+{
+    for at in 0..HEADER_SIZE {
+        if front[at] != header[at] {
+            return false;
+        }
+    }
+    true
 }
 
 // How many frames a file has, so that a caller knows what to lend; refuses one not of this layout.
@@ -97,7 +115,7 @@ pub fn wav_frames(file: &[u8]) -> Result<u32, Refusal>
     }
     let frames = (size / 4) as u32;
     let header = header_of(frames);
-    if file[..HEADER_SIZE] != header[..] {
+    if !same(&file[..HEADER_SIZE], &header) {
         return Err(Refusal::NotWav);
     }
     Ok(frames)
@@ -111,6 +129,6 @@ pub fn read_wav(file: &[u8], pcm: &mut [u8]) -> Result<u32, Refusal>
     if pcm.len() != 4 * (frames as usize) {
         return Err(Refusal::WrongRoom);
     }
-    pcm.copy_from_slice(&file[HEADER_SIZE..]);
+    copy(&file[HEADER_SIZE..], pcm);
     Ok(frames)
 }

@@ -1,9 +1,7 @@
 -- The refusals of the file, then of the destination; then the samples.
-use Rattle.std.proofs.Common.{◌≡◌, Err, refl, sym, ◌∙◌, arith, rules}
-use lib.ListN.{length-drop}
-use lib.Seq.{length-take-le}
+use Rattle.std.proofs.Common.{◌≡◌, Err, refl, arith, rules}
 use Rattle.refusal.proofs.Numbers.{positive}
-use Rattle.wav.proofs.Files.{long, whole, unread, no_place, restored}
+use Rattle.wav.proofs.Files.{long, unread, no_place, restored}
 use Rattle.wav.proofs.read_wav.Goals as goal
 
 pub returns-in_err-frames : goal.returns-in_err-frames
@@ -17,20 +15,13 @@ returns-then-pcm-frames c = let a = c.args in
     let h = c.if-pcm-frames.true in
     no_place a.file.now c.in_ok-frames.ensures a.pcm.now refl (λ e. h (omega arith))
 
-pub slice_bounds-copy_from_slice-count : goal.slice_bounds-copy_from_slice-count
-slice_bounds-copy_from_slice-count c = long c.args.file.now c.in_ok-frames.ensures refl
+pub slice_bounds-copy-count : goal.slice_bounds-copy-count
+slice_bounds-copy-count c = long c.args.file.now c.in_ok-frames.ensures refl
 
-pub slice_bounds-copy_from_slice-start : goal.slice_bounds-copy_from_slice-start
-slice_bounds-copy_from_slice-start c = long c.args.file.now c.in_ok-frames.ensures refl
-
-pub copy_from_slice-requires : goal.copy_from_slice-requires
-copy_from_slice-requires c = let a = c.args in
-    let w = whole a.file.now c.in_ok-frames.ensures refl in
-    let l = length-drop 44 a.file.now in
-    let h = c.if-pcm-frames.false in
-    sym (length-take-le _ _ (omega arith) ∙ omega (arith, w, l, h))
+pub slice_bounds-copy-start : goal.slice_bounds-copy-start
+slice_bounds-copy-start c = long c.args.file.now c.in_ok-frames.ensures refl
 
 pub returns : goal.returns
 returns c = let a = c.args in
     let h = c.if-pcm-frames.false in
-    restored a.file.now c.in_ok-frames.ensures a.pcm.now refl (omega arith) c.copy_from_slice.ensures.after
+    restored a.file.now c.in_ok-frames.ensures a.pcm.now refl (omega arith) c.copy.ensures

@@ -1,11 +1,11 @@
 -- The refusals; then the header in the first 44 bytes, and the samples behind it.
 use mathlib.Core.Bool.{true}
-use mathlib.Core.Path.{◌≡◌, sym, ap, ◌∙◌}
+use mathlib.Core.Path.{◌≡◌, sym, ◌∙◌}
 use native.Mathlib.Omega.{arith}
 use lib.ListN.{length}
 use lib.Seq.{length-take-le}
-use Rattle.wav.specs.Wav.{is_sound, frames_in}
-use Rattle.wav.proofs.Files.{header_length, unsound, no_room, written}
+use Rattle.wav.specs.Wav.{is_sound}
+use Rattle.wav.proofs.Files.{unsound, no_room, written}
 use Rattle.wav.proofs.write_wav.Goals as goal
 
 pub returns-then-not-is_sound : goal.returns-then-not-is_sound
@@ -16,14 +16,10 @@ returns-then-file-size c =
     let sound : is_sound (length c.args.pcm.now) ≡ true = (sym c.is_sound.ensures ∙ c.if-not-is_sound.false) in
     sym (no_room _ _ sound c.if-file-size.true)
 
-pub slice_bounds-copy_from_slice-end-2 : goal.slice_bounds-copy_from_slice-end-2
-slice_bounds-copy_from_slice-end-2 c = let l = c.if-file-size.false in sym (length-take-le 44 c.args.file.now (omega arith))
-
-pub copy_from_slice-requires : goal.copy_from_slice-requires
-copy_from_slice-requires c = let l = c.if-file-size.false in
-    length-take-le 44 c.args.file.now (omega arith) ∙ sym (ap length c.header_of-header.ensures ∙ header_length (frames_in (length c.args.pcm.now)))
+pub slice_bounds-copy-end-3 : goal.slice_bounds-copy-end-3
+slice_bounds-copy-end-3 c = let l = c.if-file-size.false in sym (length-take-le 44 c.args.file.now (omega arith))
 
 pub returns : goal.returns
 returns c =
     let sound : is_sound (length c.args.pcm.now) ≡ true = (sym c.is_sound.ensures ∙ c.if-not-is_sound.false) in
-    sym (written _ _ sound c.if-file-size.false c.header_of-header.ensures c.copy_from_slice.ensures.after c.copy_from_slice-2.ensures.after)
+    sym (written _ _ sound c.if-file-size.false c.header_of-header.ensures c.copy.ensures c.copy-2.ensures)
